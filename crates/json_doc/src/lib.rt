@@ -1,0 +1,19 @@
+//! JSON documents: the tree, its texts, and the small types over vectors and texts that contracts
+//! see as lists.
+#![tactic(auto)]
+
+mod bytes;
+mod decimal;
+mod doc;
+mod list;
+mod memory;
+mod pairs;
+mod text;
+
+pub use bytes::Bytes;
+pub use decimal::Decimal;
+pub use doc::Doc;
+pub use list::List;
+pub use memory::OutOfMemory;
+pub use pairs::{Pair, Pairs};
+pub use text::Text;

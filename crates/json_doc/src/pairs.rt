@@ -1,0 +1,81 @@
+ghost use Rattle.std.specs.Prelude.{◌≡◌, ◌++◌, ◌∷◌, [], length, OnOk, OnErr};
+ghost use Rattle.json_doc.specs.Keys.{keys, value_at, IsNew, IsDistinct, put};
+ghost use Rattle.std.specs.Option.{option_copied};
+
+use crate::{List, OutOfMemory, Text};
+use std::alloc::Global;
+use std::marker::Model;
+
+/// A key and the value that stands at it.
+#[derive(Debug, Drop)]
+pub struct Pair<T> {
+    pub key: Text,
+    pub value: T,
+}
+
+/// A list of pairs whose keys are distinct, in the order in which the keys came.
+#[derive(Debug, Drop)]
+pub struct Pairs<T> {
+    items: List<Pair<T>>,
+}
+
+impl<T> Model for Pairs<T> {
+    ghost use Rattle.std.specs.Prelude.{List as Seq};
+    ghost use Rattle.json_doc.specs.declared.pairs.Pair.{Pair};
+
+    ghost Value = { Seq (Pair T) };
+
+    ghost use Rattle.json_doc.specs.Keys.{keys, IsDistinct};
+
+    ghost view = { λ pairs. pairs.items };
+
+    ghost invariant = { λ pairs. IsDistinct (keys pairs.items) };
+}
+
+impl<T> Pairs<T> {
+    /// No pairs, which takes no memory.
+    pub fn new(alloc: Global) -> Pairs<T>
+        ensures { result ≡ [] }
+    {
+        Pairs {
+            items: List::new(alloc),
+        }
+    }
+
+    pub fn as_slice(&self) -> &[Pair<T>]
+        ensures same { result.now ≡ self.now }
+        ensures distinct { IsDistinct (keys self.now) }
+    {
+        self.items.as_slice()
+    }
+
+    pub fn len(&self) -> usize
+        ensures { result ≡ length self.now }
+    {
+        self.items.len()
+    }
+
+    /// The value at a key.
+    pub fn get(&self, key: &Text) -> Option<&T>
+        ensures { option_copied result ≡ value_at key.now self.now }
+    {
+        for pair in self.items.as_slice() {
+            if pair.key == *key {
+                return Some(&pair.value);
+            }
+        }
+        None
+    }
+}
+
+impl<T: Drop> Pairs<T> {
+    /// Puts a pair at the end, whose key is a new one.
+    pub fn push_new(&mut self, key: Text, value: T) -> Result<(), OutOfMemory>
+        requires { IsNew key (keys self.old) }
+        ensures ok { OnOk result (self.new ≡ self.old ++ record { key = key; value = value } ∷ []) }
+        ensures err { OnErr result (self.new ≡ self.old) }
+    {
+        self.items.push(Pair { key, value })?;
+        Ok(())
+    }
+}
