@@ -1,10 +1,13 @@
 -- The characters of a text and its bytes, as a `Text` shows them.
-use Rattle.std.proofs.Common.{◌≡◌, ◌≤◌, ℕ, true, ◌&&◌, List, length, arith, [], ◌++◌, ◌∷◌, refl, sym, ap, append-nil, ◌∙◌}
+use Rattle.std.proofs.Common.{◌≡◌, ◌≤◌, ◌<◌, ℕ, Bool, true, false, ◌&&◌, nat_lt, List, length, arith, [], ◌++◌, ◌∷◌, refl, sym, ap, append-nil, ◌∙◌}
 use Rattle.std.specs.Prelude.{encode_utf8_all, encode_utf8}
 use Rattle.std.specs.Str.{chars, IsUtf8, bytes_eq}
 use Rattle.std.specs.Bool.{Decides}
-use Rattle.std.proofs.lemmas.Str.{chars-append, chars-encodes, encodes-chars, length-le-encodes}
-use Rattle.std.proofs.Math.Utf8.{scalar}
+use Rattle.std.proofs.lemmas.Str.{chars-append, chars-encodes, encodes-chars, encode_ascii, length-le-encodes}
+use Rattle.std.proofs.Math.Utf8.{scalar, scalars, low_scalar}
+use Rattle.std.specs.Cmp.Derive.{both_true}
+use borrow.Author.Tests.{ltb-true}
+use Rattle.json_doc.specs.Ascii.{is_ascii_text}
 use Rattle.std.proofs.lemmas.Slice.Eq.{bytes_eq-Decides}
 use Rattle.std.proofs.lemmas.Bool.Decides.{same_from_decides}
 
@@ -35,3 +38,30 @@ no_items (c ∷ cs) h = absurd (omega arith)
 -- no bytes spell no characters
 pub encodes_none : (cs : List ℕ) → length (encode_utf8_all cs) ≡ 0 → cs ≡ []
 encodes_none cs h = let le = length-le-encodes cs in no_items cs (omega arith)
+
+and_left : (a b : Bool) → (a && b) ≡ true → a ≡ true
+and_left true b h = refl
+and_left false b h = h
+
+and_right : (a b : Bool) → (a && b) ≡ true → b ≡ true
+and_right true b h = h
+and_right false b h = cc
+
+below_128 : (b : ℕ) (bs : List ℕ) → is_ascii_text (b ∷ bs) ≡ true → b < 128
+below_128 b bs h = ltb-true b 128 (and_left (nat_lt b 128) (is_ascii_text bs) h)
+
+rest_ascii : (b : ℕ) (bs : List ℕ) → is_ascii_text (b ∷ bs) ≡ true → is_ascii_text bs ≡ true
+rest_ascii b bs h = and_right (nat_lt b 128) (is_ascii_text bs) h
+
+ascii_scalars : (bs : List ℕ) → is_ascii_text bs ≡ true → scalars bs ≡ true
+ascii_scalars [] h = refl
+ascii_scalars (b ∷ bs) h = let low = below_128 b bs h in both_true (low_scalar b (omega arith)) (ascii_scalars bs (rest_ascii b bs h))
+
+ascii_encodes : (bs : List ℕ) → is_ascii_text bs ≡ true → encode_utf8_all bs ≡ bs
+ascii_encodes [] h = refl
+ascii_encodes (b ∷ bs) h =
+    ap (λ cs. cs ++ encode_utf8_all bs) (encode_ascii b (below_128 b bs h)) ∙ ap (λ cs. b ∷ cs) (ascii_encodes bs (rest_ascii b bs h))
+
+-- the characters of a text in ASCII are its bytes
+pub chars_ascii : (bs : List ℕ) → is_ascii_text bs ≡ true → chars bs ≡ bs
+chars_ascii bs h = ap chars (sym (ascii_encodes bs h)) ∙ chars-encodes bs (ascii_scalars bs h)

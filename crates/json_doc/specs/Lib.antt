@@ -1,3 +1,4 @@
+pub mod Ascii
 pub mod formers
 pub mod Keys
 pub mod Least

@@ -1,6 +1,7 @@
 ghost use Rattle.std.specs.Prelude.{◌≡◌, ◌++◌, ◌∷◌, [], length, OnOk, OnErr};
 ghost use Rattle.json_doc.specs.Keys.{keys, value_at, IsNew, IsDistinct, put};
 ghost use Rattle.std.specs.Option.{option_copied};
+ghost use Rattle.std.specs.Str.{chars};
 
 use crate::{List, OutOfMemory, Text};
 use std::alloc::Global;
@@ -56,11 +57,11 @@ impl<T> Pairs<T> {
     }
 
     /// The value at a key.
-    pub fn get(&self, key: &Text) -> Option<&T>
-        ensures { option_copied result ≡ value_at key.now self.now }
+    pub fn get(&self, key: &str) -> Option<&T>
+        ensures { option_copied result ≡ value_at (chars key.now) self.now }
     {
         for pair in self.items.as_slice() {
-            if pair.key == *key {
+            if pair.key.is(key) {
                 return Some(&pair.value);
             }
         }

@@ -1,14 +1,15 @@
 ghost use Rattle.std.specs.Prelude.{◌≡◌, ◌↔◌, [], ◌∷◌, ◌++◌, IsTrue, IfOk, OnOk, OnErr, Some};
-ghost use Rattle.std.specs.Str.{chars};
+ghost use Rattle.std.specs.Str.{bytes_eq, chars};
 ghost use Rattle.std.specs.String.{string_bytes};
 ghost use Rattle.std.specs.Prelude.{nat_eq, encode_utf8_all};
 ghost use Rattle.std.specs.Cmp.{partial_equiv_from_equiv};
 ghost use Rattle.std.specs.Cmp.Lexicographic.{pointwise, nat_list_eq_equiv};
 ghost use Rattle.std.specs.Cmp.Rules.{hashing};
+ghost use Rattle.json_doc.specs.Ascii.{is_ascii_text};
 ghost use Rattle.std.specs.Hash as fed;
 ghost use Rattle.std.proofs.Common.{rules};
 
-use crate::OutOfMemory;
+use crate::{Bytes, OutOfMemory};
 use std::alloc::Global;
 use std::fmt;
 use std::hash::{Hash, Hasher};
@@ -22,7 +23,7 @@ pub struct Text {
 
 impl Model for Text {
     ghost use Rattle.std.specs.Prelude.{List, ℕ};
-    ghost use Rattle.std.specs.Str.{chars};
+    ghost use Rattle.std.specs.Str.{bytes_eq, chars};
     ghost use Rattle.std.specs.String.{string_bytes};
 
     ghost Value = { List ℕ };
@@ -74,6 +75,13 @@ impl Text {
         self.as_str().is_empty()
     }
 
+    /// Whether this is that text.
+    pub fn is(&self, text: &str) -> bool
+        ensures { result ≡ bytes_eq self.now (chars text.now) }
+    {
+        self.as_str() == text
+    }
+
     pub fn push(&mut self, c: char) -> Result<(), OutOfMemory>
         ensures ok { OnOk result (self.new ≡ self.old ++ c ∷ []) }
         ensures err { OnErr result (self.new ≡ self.old) }
@@ -88,6 +96,23 @@ impl Text {
     {
         self.inner.push_str(more)?;
         Ok(())
+    }
+
+    /// Puts a text in ASCII at the end, such as a literal.
+    pub fn push_ascii(&mut self, more: &str) -> Result<(), OutOfMemory>
+        requires { IsTrue (is_ascii_text more.now) }
+        ensures ok { OnOk result (self.new ≡ self.old ++ more.now) }
+        ensures err { OnErr result (self.new ≡ self.old) }
+    {
+        self.push_str(more)?;
+        Ok(())
+    }
+
+    /// The bytes of the text, given out without taking memory.
+    pub fn into_bytes(self) -> Bytes
+        ensures { result ≡ encode_utf8_all self }
+    {
+        Bytes::from_vec(self.inner.into_bytes())
     }
 
     /// An equal text.
