@@ -1,0 +1,20 @@
+//! The outside world of the command: files, one connection at a time, the clock, random words and
+//! output. Each is a trait whose contracts speak of what the object holds, so that a caller's
+//! contract can say what was sent, asked for and written.
+#![tactic(auto)]
+
+mod clock;
+mod dice;
+mod env;
+mod files;
+mod link;
+mod message;
+mod sink;
+
+pub use clock::Clock;
+pub use dice::{Dice, DiceFault};
+pub use env::Env;
+pub use files::{FileEnd, Files};
+pub use link::{Link, LinkFault};
+pub use message::{Message, Reply, Target};
+pub use sink::{Sink, SinkFault};
