@@ -1,4 +1,5 @@
-ghost use Rattle.std.specs.Prelude.{◌≡◌, ◌++◌, ◌∷◌, [], length, OnOk, OnErr};
+ghost use Rattle.std.specs.Prelude.{◌≡◌, ◌++◌, ◌∷◌, [], length, IsTrue, OnOk, OnErr};
+ghost use Rattle.json_doc.specs.Ascii.{is_ascii_text};
 ghost use Rattle.json_doc.specs.Keys.{keys, value_at, IsNew, IsDistinct, put};
 ghost use Rattle.std.specs.Option.{option_copied};
 ghost use Rattle.std.specs.Str.{chars};
@@ -58,6 +59,13 @@ impl<T> Pairs<T> {
 
     /// The value at a key.
     pub fn get(&self, key: &str) -> Option<&T>
+        ensures value { option_copied result ≡ value_at (chars key.now) self.now }
+        ensures ascii { IsTrue (is_ascii_text key.now) → option_copied result ≡ value_at key.now self.now }
+    {
+        self.find(key)
+    }
+
+    fn find(&self, key: &str) -> Option<&T>
         ensures { option_copied result ≡ value_at (chars key.now) self.now }
     {
         for pair in self.items.as_slice() {

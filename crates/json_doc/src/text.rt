@@ -77,7 +77,8 @@ impl Text {
 
     /// Whether this is that text.
     pub fn is(&self, text: &str) -> bool
-        ensures { result ≡ bytes_eq self.now (chars text.now) }
+        ensures value { result ≡ bytes_eq self.now (chars text.now) }
+        ensures ascii { IsTrue (is_ascii_text text.now) → result ≡ bytes_eq self.now text.now }
     {
         self.as_str() == text
     }

@@ -1,7 +1,7 @@
 use Rattle.std.proofs.Common.{◌≡◌, drop}
 use Rattle.std.specs.Str.{chars}
 use Rattle.json_doc.specs.Keys.{value_at}
-use Rattle.json_doc.proofs.pairs.Pairs.get.Given as goal
+use Rattle.json_doc.proofs.pairs.Pairs.find.Given as goal
 
 -- none of the pairs so far has the key
 abbrev pub invariant-loop-pair : goal.invariant-loop-pair
