@@ -1,0 +1,4 @@
+pub mod Causes
+pub mod Last
+pub mod Pieces
+pub mod Told

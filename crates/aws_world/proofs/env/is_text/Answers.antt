@@ -1,4 +1,3 @@
-use Rattle.std.proofs.Common.{rules}
 use Rattle.json_doc.proofs.Texts.{bytes_eq-chars}
 use Rattle.aws_world.proofs.env.is_text.Goals as goal
 
