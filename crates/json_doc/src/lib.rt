@@ -5,9 +5,11 @@
 mod bytes;
 mod decimal;
 mod doc;
+mod layout;
 mod list;
 mod memory;
 mod pairs;
+mod quoted;
 mod text;
 
 pub use bytes::Bytes;
