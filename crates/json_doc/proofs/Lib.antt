@@ -1,3 +1,4 @@
 pub mod Keyed
 pub mod Texts
 pub mod Plain
+pub mod Places

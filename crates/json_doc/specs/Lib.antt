@@ -3,3 +3,4 @@ pub mod Keys
 pub mod Least
 pub mod Escapes
 pub mod Plain
+pub mod DecimalText

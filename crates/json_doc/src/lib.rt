@@ -4,6 +4,7 @@
 
 mod bytes;
 mod decimal;
+mod decimal_text;
 mod doc;
 mod layout;
 mod list;

@@ -1,7 +1,6 @@
 use Rattle.std.proofs.Common.{◌≡◌, ◌++◌, ◌∷◌, [], length, take, drop, sym, ap, ◌∙◌}
 use Rattle.std.specs.List.{flat_map, prefix_len}
 use Rattle.std.specs.Str.{chars}
-use Rattle.std.proofs.lemmas.Result.{on_ok_weaker}
 use Rattle.json_doc.specs.Escapes.{escaped, quoted}
 use Rattle.json_doc.specs.Plain.{is_plain}
 use Rattle.json_doc.proofs.Plain.{IsCharBoundary-run, escaped-turn, escaped-last, between_quotes}
@@ -19,7 +18,8 @@ returns-in_default c =
     let none = ap length (sym c.chars-others.ensures.rest) ∙ c.in_default.ensures.steps.0.0 in
     let last = escaped-last bs c.args.layout _ _ _ _ c.runs.invariant.0 front back none c.in_ok-push_str.ensures.ok in
     let inner = flat_map (escaped c.args.layout) (chars c.args.text.now) in
-    on_ok_weaker _ (λ e. e ∙ ap (λ cs. cs ++ 34 ∷ []) (last ∙ c.runs.invariant.1) ∙ between_quotes c.args.out.now inner) c.push-in_default.ensures.ok
+    let whole = ap (λ cs. cs ++ 34 ∷ []) (last ∙ c.runs.invariant.1) ∙ between_quotes c.args.out.now inner in
+    rw whole at c.push-in_default.ensures.ok
 
 pub runs-preserved : goal.runs-preserved
 runs-preserved c =
