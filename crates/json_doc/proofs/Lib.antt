@@ -2,3 +2,5 @@ pub mod Keyed
 pub mod Texts
 pub mod Plain
 pub mod Places
+pub mod Literals
+pub mod Layouts

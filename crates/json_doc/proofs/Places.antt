@@ -38,9 +38,9 @@ zero_filled-suc q n some fits =
     let low : n % 10 ^ (q + 1) ≡ m * 10 + d = ap (λ k. n % k) (ap (λ k. 10 ^ k) (add-one q) ∙ pow-suc 10 q) ∙ mod-mul n (one-le-pow q 10 (omega arith)) (omega arith) in
     let most : m * 10 + d < 10 ^ 64 = let le = mod-le n (10 ^ (q + 1)) in omega (arith, low) in
     rw low (⊎_elim
-        (λ (none : m < 1). let zero_m : m ≡ 0 = omega arith in let alone : 0 * 10 + d ≡ d = omega arith in rw (zero_m, alone) (zero_filled-one q d some small))
-        (λ (some_m : 1 ≤ m). zero_filled-more q m d small some_m most)
-        (cases_lt m 1))
+    (λ (none : m < 1). let zero_m : m ≡ 0 = omega arith in let alone : 0 * 10 + d ≡ d = omega arith in rw (zero_m, alone) (zero_filled-one q d some small))
+    (λ (some_m : 1 ≤ m). zero_filled-more q m d small some_m most)
+    (cases_lt m 1))
 
 pub zero_filled-first : (n : ℕ) → zero_filled 1 (decimal (n % 10 ^ 1)) ≡ (48 + n % 10) ∷ []
 zero_filled-first n = let small : n % 10 < 10 = omega arith in ap (zero_filled 1) (decimal_digit (n % 10) small)

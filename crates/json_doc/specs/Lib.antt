@@ -4,3 +4,7 @@ pub mod Least
 pub mod Escapes
 pub mod Plain
 pub mod DecimalText
+pub mod Joined
+pub mod Compact
+pub mod Indented
+pub mod Layouts
