@@ -4,3 +4,4 @@ pub mod Plain
 pub mod Places
 pub mod Literals
 pub mod Layouts
+pub mod KeyedFronts

@@ -3,6 +3,7 @@
 #![tactic(auto)]
 
 mod bytes;
+mod copied;
 mod decimal;
 mod decimal_text;
 mod doc;
@@ -16,6 +17,7 @@ mod quoted;
 mod text;
 
 pub use bytes::Bytes;
+pub use copied::copy;
 pub use decimal::Decimal;
 pub use doc::Doc;
 pub use document_text::{compact, indented};
