@@ -2,3 +2,10 @@ pub mod Ascii
 pub mod formers
 pub mod Keys
 pub mod Least
+pub mod Escapes
+pub mod Plain
+pub mod DecimalText
+pub mod Joined
+pub mod Compact
+pub mod Indented
+pub mod Layouts

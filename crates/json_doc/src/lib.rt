@@ -3,16 +3,24 @@
 #![tactic(auto)]
 
 mod bytes;
+mod copied;
 mod decimal;
+mod decimal_text;
 mod doc;
+mod document_text;
+mod layout;
 mod list;
 mod memory;
 mod pairs;
+mod printer;
+mod quoted;
 mod text;
 
 pub use bytes::Bytes;
+pub use copied::copy;
 pub use decimal::Decimal;
 pub use doc::Doc;
+pub use document_text::{compact, indented};
 pub use list::List;
 pub use memory::OutOfMemory;
 pub use pairs::{Pair, Pairs};

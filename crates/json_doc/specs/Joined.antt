@@ -1,0 +1,8 @@
+-- Texts one after another.
+use Rattle.std.specs.Prelude.{ℕ, List, [], ◌∷◌, ◌++◌}
+use Rattle.std.specs.List.{flat_map}
+
+-- the parts with a separator between each two
+abbrev pub joined : List ℕ → List (List ℕ) → List ℕ
+joined separator [] = []
+joined separator (t ∷ ts) = t ++ flat_map (λ u. separator ++ u) ts
