@@ -1,2 +1,4 @@
 pub mod Keyed
+pub mod Shorter
+pub mod Stopping
 pub mod Texts

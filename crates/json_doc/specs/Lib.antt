@@ -1,3 +1,5 @@
 pub mod formers
+pub mod Grammar
 pub mod Keys
 pub mod Least
+pub mod Scan

@@ -8,6 +8,9 @@ mod doc;
 mod list;
 mod memory;
 mod pairs;
+mod read_marks;
+mod read_value;
+mod stop;
 mod text;
 
 pub use bytes::Bytes;
@@ -16,4 +19,5 @@ pub use doc::Doc;
 pub use list::List;
 pub use memory::OutOfMemory;
 pub use pairs::{Pair, Pairs};
+pub use stop::Stop;
 pub use text::Text;
