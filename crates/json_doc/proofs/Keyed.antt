@@ -1,5 +1,5 @@
 -- Lists of pairs with distinct keys.
-use Rattle.std.proofs.Common.{◌≡◌, ◌<◌, ℕ, suc, Bool, true, false, if◌then◌else◌, List, [], ◌∷◌, ◌++◌, length, get_or, set, take, drop, drop-cons, sym, refl, ap, ◌∙◌, subst}
+use Rattle.std.proofs.Common.{◌≡◌, ◌<◌, ℕ, suc, true, false, if◌then◌else◌, List, [], ◌∷◌, ◌++◌, length, get_or, set, take, drop, drop-cons, sym, refl, ap, ◌∙◌, subst}
 use Rattle.std.proofs.lemmas.List.{set_split}
 use Rattle.std.specs.Bool.{Decides}
 use Rattle.std.specs.Str.{bytes_eq}
@@ -29,9 +29,10 @@ pub IsDistinct-put : {T : Type 0} (ps : List (Pair T)) (k : List ℕ) (v : T) �
 IsDistinct-put [] k v distinct = (tt, tt)
 IsDistinct-put (p ∷ ps) k v distinct =
     let d = bytes_eq-Decides p.key k in
-    elim (bytes_eq p.key k) as (λ b. Decides b (p.key ≡ k) → IsDistinct (keys (if b then record { key = k; value = v } ∷ ps else p ∷ put ps k v)))
-    [ true ↦ (λ w. (subst (λ j. IsNew j (keys ps)) (w.0 refl) distinct.0, distinct.1))
-    | false ↦ (λ w. (IsNew-put p.key ps k v distinct.0 (λ e. false≢true (w.1 e)), IsDistinct-put ps k v distinct.1)) ] d
+    elim (bytes_eq p.key k) as (λ b. Decides b (p.key ≡ k) → IsDistinct (keys (if b then record { key = k; value = v } ∷ ps else p ∷ put ps k v))) [
+      | true ↦ (λ w. (subst (λ j. IsNew j (keys ps)) (w.0 refl) distinct.0, distinct.1))
+      | false ↦ (λ w. (IsNew-put p.key ps k v distinct.0 (λ e. false≢true (w.1 e)), IsDistinct-put ps k v distinct.1))
+    ] d
 
 put_here : {T : Type 0} (p : Pair T) (ps : List (Pair T)) (k : List ℕ) (v : T) → bytes_eq p.key k ≡ true → put (p ∷ ps) k v ≡ record { key = k; value = v } ∷ ps
 put_here p ps k v here = ap (λ b. if b then record { key = k; value = v } ∷ ps else p ∷ put ps k v) here

@@ -1,4 +1,7 @@
+pub mod Complete
 pub mod Keyed
+pub mod Once
 pub mod Shorter
+pub mod Sound
 pub mod Stopping
 pub mod Texts

@@ -1,12 +1,13 @@
 -- What is behind a part is no longer than the part's bytes.
-use Rattle.std.proofs.Common.{◌≡◌, ◌==◌, ℕ, suc, ◌+◌, ◌<◌, ◌≤◌, Bool, true, false, if◌then◌else◌, List, [], ◌∷◌, ◌++◌, length, Option, Some, None, Result, Ok, Err, refl, subst, arith}
+use Rattle.std.proofs.Common.{◌≡◌, ◌==◌, ℕ, ◌<◌, ◌≤◌, Bool, true, false, if◌then◌else◌, List, [], ◌∷◌, length, Some, None, Result, Ok, Err, subst, arith}
 use Rattle.std.specs.Prelude.{codes}
 use Rattle.json_doc.specs.declared.doc.Doc as doc
 use Rattle.json_doc.specs.declared.doc.Doc.{Doc}
 use Rattle.json_doc.specs.declared.pairs.Pair.{Pair}
 use Rattle.json_doc.specs.declared.stop.Stop.{Stop}
 use Rattle.json_doc.specs.declared.stop.Stop.TheVariants.{Syntax}
-use Rattle.json_doc.specs.Scan.{Read, ◌>>=◌, made, is_blank, is_plain, skipped, behind, past, past_word, text_at, scalar_at, key_at, Value, Array, Object, Elements, Members}
+use Rattle.json_doc.specs.Reading.{Read, ◌>>=◌}
+use Rattle.json_doc.specs.Scan.{made, is_blank, is_plain, skipped, behind, past, past_word, text_at, scalar_at, key_at, Value, Array, Object, Elements, Members}
 
 abbrev Within : {A : Type 0} → List ℕ → Read A → Type 0
 Within bs (Ok x) = length x.1 ≤ length bs
@@ -93,7 +94,6 @@ key-within bs =
 
 pub key_at-within : (bs : List ℕ) (x : List ℕ × List ℕ) → key_at bs ≡ Ok x → length x.1 ≤ length bs
 key_at-within bs x e = subst (Within bs) e (key-within bs)
-
 
 behind-le : (c : ℕ) (bs rest : List ℕ) → behind c bs ≡ Some rest → length rest ≤ length bs
 behind-le c bs rest e = omega (arith, behind-lt c bs rest e)

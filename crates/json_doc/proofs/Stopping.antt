@@ -3,7 +3,7 @@ use Rattle.std.proofs.Common.{◌≡◌, Result, Ok, Err}
 use Rattle.std.specs.Prelude.{IfOk, IfErr}
 use Rattle.json_doc.specs.declared.stop.Stop.{Stop}
 use Rattle.json_doc.specs.declared.stop.Stop.TheVariants.{Syntax, TooDeep, NumberTooWide, OutOfMemory}
-use Rattle.json_doc.specs.Scan.{Stops, Gives}
+use Rattle.json_doc.specs.Reading.{Stops, Gives}
 
 -- one reason gives another
 pub Stops-weaker : (P Q : Stop → Type 0) (stop : Stop) → ((s : Stop) → P s → Q s) → Stops P stop → Stops Q stop

@@ -2,4 +2,5 @@ pub mod formers
 pub mod Grammar
 pub mod Keys
 pub mod Least
+pub mod Reading
 pub mod Scan

@@ -5,35 +5,14 @@ use Rattle.json_doc.specs.declared.doc.Doc as doc
 use Rattle.json_doc.specs.declared.doc.Doc.{Doc}
 use Rattle.json_doc.specs.declared.pairs.Pair.{Pair}
 use Rattle.json_doc.specs.declared.stop.Stop.{Stop}
-use Rattle.json_doc.specs.declared.stop.Stop.TheVariants.{Syntax, TooDeep, NumberTooWide, OutOfMemory}
+use Rattle.json_doc.specs.declared.stop.Stop.TheVariants.{Syntax, TooDeep}
 use Rattle.json_doc.specs.Keys.{put}
-
--- what a part gives
-abbrev pub Read : Type 0 → Type 0
-Read A = Result (A × List ℕ) Stop
-
--- goes on behind what was read
-infixl 10 ◌>>=◌
-abbrev pub ◌>>=◌ : {A B : Type 0} → Result A Stop → (A → Result B Stop) → Result B Stop
-(Ok x) >>= f = f x
-(Err stop) >>= f = Err stop
+use Rattle.json_doc.specs.Reading.{Read, ◌>>=◌}
 
 -- the same with another value
 abbrev pub made : {A B : Type 0} → (A → B) → Read A → Read B
 made f (Ok x) = Ok (f x.0, x.1)
 made f (Err stop) = Err stop
-
--- a stop for this reason, which leaves want of memory open
-abbrev pub Stops : (Stop → Type 0) → Stop → Type 0
-Stops P OutOfMemory = Unit {0}
-Stops P (Syntax left) = P (Syntax left)
-Stops P (TooDeep left) = P (TooDeep left)
-Stops P (NumberTooWide left) = P (NumberTooWide left)
-
--- A call that answers this, seen by a view, gives what reading gives, unless memory ran out.
-abbrev pub Gives : {X A : Type 0} → (X → A) → Result X Stop → Result A Stop → Type 0
-Gives view (Ok x) read = read ≡ Ok (view x)
-Gives view (Err stop) read = Stops (λ s. read ≡ Err s) stop
 
 -- space, tab, line feed and carriage return
 abbrev pub is_blank : ℕ → Bool
@@ -113,8 +92,14 @@ mutual
     more_members : {n : ℕ} {ps : List (Pair Doc)} {bs k vs ws rest : List ℕ} {d : Doc} {o : Read (List (Pair Doc))} → key_at bs ≡ Ok (k, vs) → Value n vs (Ok (d, ws)) → behind 125 (skipped ws) ≡ None → behind 44 (skipped ws) ≡ Some rest → Members n (put ps k d) (skipped rest) o → Members n ps bs o
     open_object : {n : ℕ} {ps : List (Pair Doc)} {bs k vs ws : List ℕ} {d : Doc} → key_at bs ≡ Ok (k, vs) → Value n vs (Ok (d, ws)) → behind 125 (skipped ws) ≡ None → behind 44 (skipped ws) ≡ None → Members n ps bs (Err (Syntax (length (skipped ws))))
 
--- a whole text
-pub data Text : List ℕ → Result Doc Stop → Type 0 where
-  bad_value : {bs : List ℕ} {stop : Stop} → Value 0 (skipped bs) (Err stop) → Text bs (Err stop)
-  whole : {bs rest : List ℕ} {d : Doc} → Value 0 (skipped bs) (Ok (d, rest)) → skipped rest ≡ [] → Text bs (Ok d)
-  trailing : {bs rest cs : List ℕ} {d : Doc} {c : ℕ} → Value 0 (skipped bs) (Ok (d, rest)) → skipped rest ≡ c ∷ cs → Text bs (Err (Syntax (length (c ∷ cs))))
+-- a document, behind which nothing is due but blanks
+abbrev pub ended : Doc → List ℕ → Result Doc Stop
+ended d [] = Ok d
+ended d (c ∷ cs) = Err (Syntax (length (c ∷ cs)))
+
+abbrev pub whole : Read Doc → Result Doc Stop
+whole read = read >>= (λ x. ended x.0 (skipped x.1))
+
+-- a whole text gives this
+abbrev pub Scans : List ℕ → Result Doc Stop → Type 0
+Scans bs r = (o : Read Doc) × Value 0 (skipped bs) o × (r ≡ whole o)

@@ -10,6 +10,7 @@ mod memory;
 mod pairs;
 mod read_marks;
 mod read_value;
+mod reader;
 mod stop;
 mod text;
 
@@ -19,5 +20,6 @@ pub use doc::Doc;
 pub use list::List;
 pub use memory::OutOfMemory;
 pub use pairs::{Pair, Pairs};
+pub use reader::{ReadFault, read};
 pub use stop::Stop;
 pub use text::Text;

@@ -1,6 +1,7 @@
 ghost use Rattle.std.specs.Prelude.{◌≡◌, ◌≤◌, ◌<◌, length, codes, IsTrue, IfOk, IfErr, Ok, Err};
 ghost use Rattle.std.specs.Option.{option_copied};
-ghost use Rattle.json_doc.specs.Scan.{Gives, Stops, is_blank, is_plain, skipped, behind, past, past_word, text_at, key_at};
+ghost use Rattle.json_doc.specs.Reading.{Gives, Stops};
+ghost use Rattle.json_doc.specs.Scan.{is_blank, is_plain, skipped, behind, past, past_word, text_at, key_at};
 
 use crate::{Stop, Text};
 use std::alloc::Global;

@@ -1,5 +1,6 @@
 ghost use Rattle.std.specs.Prelude.{◌≡◌, IfOk, IfErr, Ok, Err};
-ghost use Rattle.json_doc.specs.Scan.{Gives, Stops, Value, Array, Object, scalar_at};
+ghost use Rattle.json_doc.specs.Reading.{Gives, Stops};
+ghost use Rattle.json_doc.specs.Scan.{Value, Array, Object, scalar_at};
 
 use crate::read_marks::{pass_word, read_key, read_plain, skip_blanks, strip};
 use crate::{Doc, List, Pairs, Stop};

@@ -1,6 +1,6 @@
-use Rattle.std.proofs.Common.{◌≡◌, ◌<◌, ◌≤◌, ◌+◌, length, sym, ap, ◌∙◌, subst, rules, arith, Ok, Err}
+use Rattle.std.proofs.Common.{◌<◌, ◌+◌, arith, Ok, Err}
 use Rattle.std.proofs.lemmas.Result.{err_from_is_err_and}
-use Rattle.json_doc.specs.Scan.{Read, Stops, Value, Array, Object, Elements, Members}
+use Rattle.json_doc.specs.Scan.{Value, Array, Object, Elements, Members}
 use Rattle.json_doc.proofs.Shorter.{behind-lt, skipped-le, value-within, key_at-within}
 use Rattle.json_doc.proofs.Stopping.{Stops-weaker, Gives-ok, Gives-err}
 use Rattle.json_doc.proofs.read_value.+read.Goals as goal

@@ -1,7 +1,8 @@
-use Rattle.std.proofs.Common.{◌≡◌, ◌+◌, ◌-◌, ◌*◌, List, [], length}
+use Rattle.std.proofs.Common.{◌+◌, ◌-◌, ◌*◌, List, [], length}
 use Rattle.json_doc.specs.declared.doc.Doc.{Doc}
 use Rattle.json_doc.specs.declared.pairs.Pair.{Pair}
-use Rattle.json_doc.specs.Scan.{Read, Elements, Members}
+use Rattle.json_doc.specs.Reading.{Read}
+use Rattle.json_doc.specs.Scan.{Elements, Members}
 use Rattle.json_doc.proofs.read_value.+read.Given as goal
 
 abbrev pub decreases-read_value : goal.decreases-read_value

@@ -1,4 +1,4 @@
-use Rattle.std.proofs.Common.{◌≡◌, ◌∙◌, sym, ap, subst}
+use Rattle.std.proofs.Common.{◌≡◌, subst}
 use Rattle.json_doc.specs.Keys.{keys, IsDistinct, put}
 use Rattle.json_doc.proofs.Keyed.{IsDistinct-put}
 use Rattle.json_doc.proofs.pairs.Pairs.put.Goals as goal
