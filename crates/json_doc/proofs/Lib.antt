@@ -1,4 +1,9 @@
+pub mod Complete
 pub mod Keyed
+pub mod Once
+pub mod Shorter
+pub mod Sound
+pub mod Stopping
 pub mod Texts
 pub mod Plain
 pub mod Places

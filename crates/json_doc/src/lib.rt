@@ -14,6 +14,10 @@ mod memory;
 mod pairs;
 mod printer;
 mod quoted;
+mod read_marks;
+mod read_value;
+mod reader;
+mod stop;
 mod text;
 
 pub use bytes::Bytes;
@@ -24,4 +28,6 @@ pub use document_text::{compact, indented};
 pub use list::List;
 pub use memory::OutOfMemory;
 pub use pairs::{Pair, Pairs};
+pub use reader::{ReadFault, read};
+pub use stop::Stop;
 pub use text::Text;

@@ -1,4 +1,4 @@
-ghost use Rattle.std.specs.Prelude.{◌≡◌, ◌++◌, ◌∷◌, [], length, IsTrue, OnOk, OnErr};
+ghost use Rattle.std.specs.Prelude.{◌≡◌, ◌<◌, ◌++◌, ◌∷◌, [], length, slice_set, IsTrue, IfNone, IfSome, OnOk, OnErr};
 ghost use Rattle.json_doc.specs.Ascii.{is_ascii_text};
 ghost use Rattle.json_doc.specs.Keys.{keys, value_at, IsNew, IsDistinct, put};
 ghost use Rattle.std.specs.Option.{option_copied};
@@ -87,4 +87,32 @@ impl<T: Drop> Pairs<T> {
         self.items.push(Pair { key, value })?;
         Ok(())
     }
+
+    /// Puts a value at a key: in the old one's place, or at the end where the key is new.
+    pub fn put(&mut self, key: Text, value: T) -> Result<(), OutOfMemory>
+        ensures ok { OnOk result (self.new ≡ put self.old key value) }
+        ensures err { OnErr result (self.new ≡ self.old) }
+    {
+        match place_of(self.items.as_slice(), &key) {
+            Some(at) => self.items.set(at, Pair { key, value }),
+            None => self.items.push(Pair { key, value })?,
+        }
+        Ok(())
+    }
+}
+
+/// Where the key stands.
+fn place_of<T>(pairs: &[Pair<T>], key: &Text) -> Option<usize>
+    ensures within { IfSome result (λ at. at < length pairs.now) }
+    ensures found { IfSome result (λ at. (v : T) →
+        put pairs.now key.now v ≡ slice_set pairs.now at (record { key = key.now; value = v })) }
+    ensures none { IfNone result ((v : T) →
+        put pairs.now key.now v ≡ pairs.now ++ record { key = key.now; value = v } ∷ []) }
+{
+    for (at, pair) in pairs.iter().enumerate() {
+        if pair.key == *key {
+            return Some(at);
+        }
+    }
+    None
 }

@@ -1,0 +1,142 @@
+-- What is behind a part is no longer than the part's bytes.
+use Rattle.std.proofs.Common.{◌≡◌, ◌==◌, ℕ, ◌<◌, ◌≤◌, Bool, true, false, if◌then◌else◌, List, [], ◌∷◌, length, Some, None, Result, Ok, Err, subst, arith}
+use Rattle.std.specs.Prelude.{codes}
+use Rattle.json_doc.specs.declared.doc.Doc as doc
+use Rattle.json_doc.specs.declared.doc.Doc.{Doc}
+use Rattle.json_doc.specs.declared.pairs.Pair.{Pair}
+use Rattle.json_doc.specs.declared.stop.Stop.{Stop}
+use Rattle.json_doc.specs.declared.stop.Stop.TheVariants.{Syntax}
+use Rattle.json_doc.specs.Reading.{Read, ◌>>=◌}
+use Rattle.json_doc.specs.Scan.{made, is_blank, is_plain, skipped, behind, past, past_word, text_at, scalar_at, key_at, Value, Array, Object, Elements, Members}
+
+abbrev Within : {A : Type 0} → List ℕ → Read A → Type 0
+Within bs (Ok x) = length x.1 ≤ length bs
+Within bs (Err stop) = Unit {0}
+
+-- the same of bytes alone
+abbrev Left : List ℕ → Result (List ℕ) Stop → Type 0
+Left bs (Ok rest) = length rest ≤ length bs
+Left bs (Err stop) = Unit {0}
+
+either : {A : Type 0} (P : A → Type 0) (b : Bool) (x y : A) → P x → P y → P (if b then x else y)
+either P b x y p q = elim b as (λ v. P (if v then x else y)) [ true ↦ p | false ↦ q ]
+
+pub skipped-le : (bs : List ℕ) → length (skipped bs) ≤ length bs
+skipped-le [] = omega arith
+skipped-le (b ∷ bs) = either (λ cs. length cs ≤ length (b ∷ bs)) (is_blank b) (skipped bs) (b ∷ bs) (omega (arith, skipped-le bs)) (omega arith)
+
+pub behind-lt : (c : ℕ) (bs rest : List ℕ) → behind c bs ≡ Some rest → length rest < length bs
+behind-lt c [] rest e = absurd cc
+behind-lt c (b ∷ bs) rest e =
+    elim (b == c) as (λ v. (if v then Some bs else None) ≡ Some rest → length rest < length (b ∷ bs))
+    [ true ↦ (λ f. let same : bs ≡ rest = cc in subst (λ cs. length cs < length (b ∷ bs)) same (omega arith)) | false ↦ (λ f. absurd cc) ] e
+
+past-le : (c : ℕ) (bs : List ℕ) → Left bs (past c bs)
+past-le c [] = tt
+past-le c (b ∷ bs) = either (Left (b ∷ bs)) (b == c) (Ok bs) (Err (Syntax (length (b ∷ bs)))) (omega arith) tt
+
+left-wider : (bs cs : List ℕ) (r : Result (List ℕ) Stop) → length bs ≤ length cs → Left bs r → Left cs r
+left-wider bs cs (Ok rest) le h = omega arith
+left-wider bs cs (Err stop) le h = tt
+
+past_skipped-le : (c : ℕ) (bs : List ℕ) → Left bs (past c (skipped bs))
+past_skipped-le c bs = left-wider (skipped bs) bs (past c (skipped bs)) (skipped-le bs) (past-le c (skipped bs))
+
+made-within : {A B : Type 0} (f : A → B) (bs : List ℕ) (o : Read A) → Within bs o → Within bs (made f o)
+made-within f bs (Ok x) h = h
+made-within f bs (Err stop) h = tt
+
+wider : {A : Type 0} (bs cs : List ℕ) (o : Read A) → length bs ≤ length cs → Within bs o → Within cs o
+wider bs cs (Ok x) le h = omega arith
+wider bs cs (Err stop) le h = tt
+
+bind-left : {B : Type 0} (bs : List ℕ) (r : Result (List ℕ) Stop) (f : List ℕ → Read B) → Left bs r → ((cs : List ℕ) → Within cs (f cs)) → Within bs (r >>= f)
+bind-left bs (Ok cs) f h g = wider cs bs (f cs) h (g cs)
+bind-left bs (Err stop) f h g = tt
+
+bind-within : {A B : Type 0} (bs : List ℕ) (r : Read A) (f : A × List ℕ → Read B) → Within bs r → ((x : A × List ℕ) → Within x.1 (f x)) → Within bs (r >>= f)
+bind-within bs (Ok x) f h g = wider x.1 bs (f x) h (g x)
+bind-within bs (Err stop) f h g = tt
+
+left-left : (bs : List ℕ) (r : Result (List ℕ) Stop) (f : List ℕ → Result (List ℕ) Stop) → Left bs r → ((cs : List ℕ) → Left cs (f cs)) → Left bs (r >>= f)
+left-left bs (Ok cs) f h g = left-wider cs bs (f cs) h (g cs)
+left-left bs (Err stop) f h g = tt
+
+past_word-le : (word bs : List ℕ) → Left bs (past_word word bs)
+past_word-le [] bs = omega arith
+past_word-le (c ∷ cs) bs = left-left bs (past c bs) (past_word cs) (past-le c bs) (past_word-le cs)
+
+named-within : (d : Doc) (word bs : List ℕ) → Within bs (past_word word bs >>= (λ rest. Ok (d, rest)))
+named-within d word bs = bind-left bs (past_word word bs) (λ rest. Ok (d, rest)) (past_word-le word bs) (λ cs. omega arith)
+
+text_at-within : (bs : List ℕ) → Within bs (text_at bs)
+text_at-within [] = tt
+text_at-within (b ∷ bs) =
+    let rest = made-within (λ t. b ∷ t) (b ∷ bs) (text_at bs) (wider bs (b ∷ bs) (text_at bs) (omega arith) (text_at-within bs)) in
+    let fault : Read (List ℕ) = Err (Syntax (length (b ∷ bs))) in
+    either (Within (b ∷ bs)) (b == 34) (Ok ([], bs)) (if is_plain b then made (λ t. b ∷ t) (text_at bs) else fault) (omega arith)
+    (either (Within (b ∷ bs)) (is_plain b) (made (λ t. b ∷ t) (text_at bs)) fault rest tt)
+
+scalar_at-within : (bs : List ℕ) → Within bs (scalar_at bs)
+scalar_at-within [] = tt
+scalar_at-within (b ∷ bs) =
+    let more : length bs ≤ length (b ∷ bs) = omega arith in
+    let fault : Read Doc = Err (Syntax (length (b ∷ bs))) in
+    let text = wider bs (b ∷ bs) (made doc.Str (text_at bs)) more (made-within doc.Str bs (text_at bs) (text_at-within bs)) in
+    let null = wider bs (b ∷ bs) _ more (named-within doc.Null (codes "ull") bs) in
+    either (Within (b ∷ bs)) (b == 34) _ _ text (either (Within (b ∷ bs)) (b == 110) _ fault null tt)
+
+key-within : (bs : List ℕ) → Within bs (key_at bs)
+key-within bs =
+    bind-left bs (past 34 bs) _ (past-le 34 bs) (λ ks.
+    bind-within ks (text_at ks) _ (text_at-within ks) (λ key.
+    bind-left key.1 (past 58 (skipped key.1)) _ (past_skipped-le 58 key.1) (λ vs. skipped-le vs)))
+
+pub key_at-within : (bs : List ℕ) (x : List ℕ × List ℕ) → key_at bs ≡ Ok x → length x.1 ≤ length bs
+key_at-within bs x e = subst (Within bs) e (key-within bs)
+
+behind-le : (c : ℕ) (bs rest : List ℕ) → behind c bs ≡ Some rest → length rest ≤ length bs
+behind-le c bs rest e = omega (arith, behind-lt c bs rest e)
+
+behind_skipped-le : (c : ℕ) (bs rest : List ℕ) → behind c (skipped bs) ≡ Some rest → length rest ≤ length bs
+behind_skipped-le c bs rest e = omega (arith, behind-lt c (skipped bs) rest e, skipped-le bs)
+
+skipped-within : {A : Type 0} (c : ℕ) (bs ws : List ℕ) (o : Read A) → behind c bs ≡ Some ws → Within (skipped ws) o → Within bs o
+skipped-within c bs ws o e h = wider (skipped ws) bs o (omega (arith, behind-lt c bs ws e, skipped-le ws)) h
+
+comma-within : {A : Type 0} (bs ws rest : List ℕ) (o : Read A) → length ws ≤ length bs → behind 44 (skipped ws) ≡ Some rest → Within (skipped rest) o → Within bs o
+comma-within bs ws rest o le e h = wider (skipped rest) bs o (omega (arith, behind_skipped-le 44 ws rest e, skipped-le rest)) h
+
+mutual
+  value_in-within : {n : ℕ} {bs : List ℕ} {o : Read Doc} → Value n bs o → Within bs o
+  value_in-within (Value.scalar {bs = bs} e f g) = subst (Within bs) g (scalar_at-within bs)
+  value_in-within (Value.array {bs = bs} {ws = ws} {o = o} e less a) = made-within doc.Items bs o (skipped-within 91 bs ws o e (array_in-within a))
+  value_in-within (Value.object {bs = bs} {ws = ws} {o = o} e less a) = made-within doc.Fields bs o (skipped-within 123 bs ws o e (object_in-within a))
+  value_in-within (Value.deep_array e more) = tt
+  value_in-within (Value.deep_object e more) = tt
+
+  array_in-within : {n : ℕ} {bs : List ℕ} {o : Read (List Doc)} → Array n bs o → Within bs o
+  array_in-within (Array.empty_array {bs = bs} {rest = rest} e) = behind-le 93 bs rest e
+  array_in-within (Array.full_array e es) = elements_in-within es
+
+  elements_in-within : {n : ℕ} {ds : List Doc} {bs : List ℕ} {o : Read (List Doc)} → Elements n ds bs o → Within bs o
+  elements_in-within (Elements.bad_element v) = tt
+  elements_in-within (Elements.last_element {ws = ws} {rest = rest} v e) = omega (arith, value_in-within v, behind_skipped-le 93 ws rest e)
+  elements_in-within (Elements.more_elements {bs = bs} {ws = ws} {rest = rest} {o = o} v e f es) = comma-within bs ws rest o (value_in-within v) f (elements_in-within es)
+  elements_in-within (Elements.open_array v e f) = tt
+
+  object_in-within : {n : ℕ} {bs : List ℕ} {o : Read (List (Pair Doc))} → Object n bs o → Within bs o
+  object_in-within (Object.empty_object {bs = bs} {rest = rest} e) = behind-le 125 bs rest e
+  object_in-within (Object.full_object e ms) = members_in-within ms
+
+  members_in-within : {n : ℕ} {ps : List (Pair Doc)} {bs : List ℕ} {o : Read (List (Pair Doc))} → Members n ps bs o → Within bs o
+  members_in-within (Members.bad_key e) = tt
+  members_in-within (Members.bad_member e v) = tt
+  members_in-within (Members.last_member {bs = bs} {k = k} {vs = vs} {ws = ws} {rest = rest} e v f) =
+      omega (arith, key_at-within bs (k, vs) e, value_in-within v, behind_skipped-le 125 ws rest f)
+  members_in-within (Members.more_members {bs = bs} {k = k} {vs = vs} {ws = ws} {rest = rest} {o = o} e v f g ms) =
+      wider vs bs o (key_at-within bs (k, vs) e) (comma-within vs ws rest o (value_in-within v) g (members_in-within ms))
+  members_in-within (Members.open_object e v f g) = tt
+
+pub value-within : {n : ℕ} {bs rest : List ℕ} {d : Doc} → Value n bs (Ok (d, rest)) → length rest ≤ length bs
+value-within v = value_in-within v

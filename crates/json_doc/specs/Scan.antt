@@ -1,0 +1,105 @@
+-- Reading from the left, part by part: each part gives its value and the bytes behind it, or the
+-- first fault, with how many bytes are left there. `n` counts the brackets that are open.
+use Rattle.std.specs.Prelude.{◌≡◌, ℕ, ◌+◌, ◌<◌, ◌≤◌, ◌==◌, ◌||◌, ◌&&◌, nat_lt, codes, Bool, true, false, if◌then◌else◌, List, [], ◌∷◌, ◌++◌, length, Option, None, Some, Result, Ok, Err}
+use Rattle.json_doc.specs.declared.doc.Doc as doc
+use Rattle.json_doc.specs.declared.doc.Doc.{Doc}
+use Rattle.json_doc.specs.declared.pairs.Pair.{Pair}
+use Rattle.json_doc.specs.declared.stop.Stop.{Stop}
+use Rattle.json_doc.specs.declared.stop.Stop.TheVariants.{Syntax, TooDeep}
+use Rattle.json_doc.specs.Keys.{put}
+use Rattle.json_doc.specs.Reading.{Read, ◌>>=◌}
+
+-- the same with another value
+abbrev pub made : {A B : Type 0} → (A → B) → Read A → Read B
+made f (Ok x) = Ok (f x.0, x.1)
+made f (Err stop) = Err stop
+
+-- space, tab, line feed and carriage return
+abbrev pub is_blank : ℕ → Bool
+is_blank b = b == 32 || b == 9 || b == 10 || b == 13
+
+-- the bytes without the blanks in front
+abbrev pub skipped : List ℕ → List ℕ
+skipped [] = []
+skipped (b ∷ bs) = if is_blank b then skipped bs else b ∷ bs
+
+-- what is behind this byte, where the bytes begin with it
+abbrev pub behind : ℕ → List ℕ → Option (List ℕ)
+behind c [] = None
+behind c (b ∷ bs) = if b == c then Some bs else None
+
+-- what is behind this byte, which is due
+abbrev pub past : ℕ → List ℕ → Result (List ℕ) Stop
+past c [] = Err (Syntax 0)
+past c (b ∷ bs) = if b == c then Ok bs else Err (Syntax (length (b ∷ bs)))
+
+-- what is behind this word, whose letters are due
+abbrev pub past_word : List ℕ → List ℕ → Result (List ℕ) Stop
+past_word [] bs = Ok bs
+past_word (c ∷ cs) bs = past c bs >>= past_word cs
+
+-- a character that stands for itself
+abbrev pub is_plain : ℕ → Bool
+is_plain b = nat_lt 31 b && nat_lt b 127 && (if b == 34 || b == 92 then false else true)
+
+-- a text behind its opening quote
+abbrev pub text_at : List ℕ → Read (List ℕ)
+text_at [] = Err (Syntax 0)
+text_at (b ∷ bs) = if b == 34 then Ok ([], bs) else (if is_plain b then made (λ t. b ∷ t) (text_at bs) else Err (Syntax (length (b ∷ bs))))
+
+-- a value without brackets
+abbrev pub scalar_at : List ℕ → Read Doc
+scalar_at [] = Err (Syntax 0)
+scalar_at (b ∷ bs) =
+    if b == 34 then made doc.Str (text_at bs) else
+    (if b == 110 then past_word (codes "ull") bs >>= (λ rest. Ok (doc.Null, rest)) else
+    Err (Syntax (length (b ∷ bs))))
+
+-- a key, its colon, and blanks
+abbrev pub key_at : List ℕ → Read (List ℕ)
+key_at bs = past 34 bs >>= (λ ks. text_at ks >>= (λ key. past 58 (skipped key.1) >>= (λ vs. Ok (key.0, skipped vs))))
+
+mutual
+  pub data Value : ℕ → List ℕ → Read Doc → Type 0 where
+    scalar : {n : ℕ} {bs : List ℕ} {o : Read Doc} → behind 91 bs ≡ None → behind 123 bs ≡ None → scalar_at bs ≡ o → Value n bs o
+    array : {n : ℕ} {bs ws : List ℕ} {o : Read (List Doc)} → behind 91 bs ≡ Some ws → n < 100 → Array (n + 1) (skipped ws) o → Value n bs (made doc.Items o)
+    object : {n : ℕ} {bs ws : List ℕ} {o : Read (List (Pair Doc))} → behind 123 bs ≡ Some ws → n < 100 → Object (n + 1) (skipped ws) o → Value n bs (made doc.Fields o)
+    deep_array : {n : ℕ} {bs ws : List ℕ} → behind 91 bs ≡ Some ws → 100 ≤ n → Value n bs (Err (TooDeep (length bs)))
+    deep_object : {n : ℕ} {bs ws : List ℕ} → behind 123 bs ≡ Some ws → 100 ≤ n → Value n bs (Err (TooDeep (length bs)))
+
+  -- behind the opening bracket
+  pub data Array : ℕ → List ℕ → Read (List Doc) → Type 0 where
+    empty_array : {n : ℕ} {bs rest : List ℕ} → behind 93 bs ≡ Some rest → Array n bs (Ok ([], rest))
+    full_array : {n : ℕ} {bs : List ℕ} {o : Read (List Doc)} → behind 93 bs ≡ None → Elements n [] bs o → Array n bs o
+
+  -- elements that are still to come behind these
+  pub data Elements : ℕ → List Doc → List ℕ → Read (List Doc) → Type 0 where
+    bad_element : {n : ℕ} {ds : List Doc} {bs : List ℕ} {stop : Stop} → Value n bs (Err stop) → Elements n ds bs (Err stop)
+    last_element : {n : ℕ} {ds : List Doc} {bs ws rest : List ℕ} {d : Doc} → Value n bs (Ok (d, ws)) → behind 93 (skipped ws) ≡ Some rest → Elements n ds bs (Ok (ds ++ d ∷ [], rest))
+    more_elements : {n : ℕ} {ds : List Doc} {bs ws rest : List ℕ} {d : Doc} {o : Read (List Doc)} → Value n bs (Ok (d, ws)) → behind 93 (skipped ws) ≡ None → behind 44 (skipped ws) ≡ Some rest → Elements n (ds ++ d ∷ []) (skipped rest) o → Elements n ds bs o
+    open_array : {n : ℕ} {ds : List Doc} {bs ws : List ℕ} {d : Doc} → Value n bs (Ok (d, ws)) → behind 93 (skipped ws) ≡ None → behind 44 (skipped ws) ≡ None → Elements n ds bs (Err (Syntax (length (skipped ws))))
+
+  -- behind the opening brace
+  pub data Object : ℕ → List ℕ → Read (List (Pair Doc)) → Type 0 where
+    empty_object : {n : ℕ} {bs rest : List ℕ} → behind 125 bs ≡ Some rest → Object n bs (Ok ([], rest))
+    full_object : {n : ℕ} {bs : List ℕ} {o : Read (List (Pair Doc))} → behind 125 bs ≡ None → Members n [] bs o → Object n bs o
+
+  -- members that are still to come behind these
+  pub data Members : ℕ → List (Pair Doc) → List ℕ → Read (List (Pair Doc)) → Type 0 where
+    bad_key : {n : ℕ} {ps : List (Pair Doc)} {bs : List ℕ} {stop : Stop} → key_at bs ≡ Err stop → Members n ps bs (Err stop)
+    bad_member : {n : ℕ} {ps : List (Pair Doc)} {bs k vs : List ℕ} {stop : Stop} → key_at bs ≡ Ok (k, vs) → Value n vs (Err stop) → Members n ps bs (Err stop)
+    last_member : {n : ℕ} {ps : List (Pair Doc)} {bs k vs ws rest : List ℕ} {d : Doc} → key_at bs ≡ Ok (k, vs) → Value n vs (Ok (d, ws)) → behind 125 (skipped ws) ≡ Some rest → Members n ps bs (Ok (put ps k d, rest))
+    more_members : {n : ℕ} {ps : List (Pair Doc)} {bs k vs ws rest : List ℕ} {d : Doc} {o : Read (List (Pair Doc))} → key_at bs ≡ Ok (k, vs) → Value n vs (Ok (d, ws)) → behind 125 (skipped ws) ≡ None → behind 44 (skipped ws) ≡ Some rest → Members n (put ps k d) (skipped rest) o → Members n ps bs o
+    open_object : {n : ℕ} {ps : List (Pair Doc)} {bs k vs ws : List ℕ} {d : Doc} → key_at bs ≡ Ok (k, vs) → Value n vs (Ok (d, ws)) → behind 125 (skipped ws) ≡ None → behind 44 (skipped ws) ≡ None → Members n ps bs (Err (Syntax (length (skipped ws))))
+
+-- a document, behind which nothing is due but blanks
+abbrev pub ended : Doc → List ℕ → Result Doc Stop
+ended d [] = Ok d
+ended d (c ∷ cs) = Err (Syntax (length (c ∷ cs)))
+
+abbrev pub whole : Read Doc → Result Doc Stop
+whole read = read >>= (λ x. ended x.0 (skipped x.1))
+
+-- a whole text gives this
+abbrev pub Scans : List ℕ → Result Doc Stop → Type 0
+Scans bs r = (o : Read Doc) × Value 0 (skipped bs) o × (r ≡ whole o)

@@ -1,0 +1,94 @@
+ghost use Rattle.std.specs.Prelude.{◌≡◌, ◌≤◌, ◌<◌, length, codes, IsTrue, IfOk, IfErr, Ok, Err};
+ghost use Rattle.std.specs.Option.{option_copied};
+ghost use Rattle.json_doc.specs.Reading.{Gives, Stops};
+ghost use Rattle.json_doc.specs.Scan.{is_blank, is_plain, skipped, behind, past, past_word, text_at, key_at};
+
+use crate::{Stop, Text};
+use std::alloc::Global;
+
+fn is_blank(b: u8) -> bool
+    ensures { result ≡ is_blank b }
+{
+    b == b' ' || b == b'\t' || b == b'\n' || b == b'\r'
+}
+
+/// The bytes without the blanks in front.
+pub fn skip_blanks(bytes: &[u8]) -> &[u8]
+    ensures value { result.now ≡ skipped bytes.now }
+    ensures within { length result.now ≤ length bytes.now }
+{
+    for (at, b) in bytes.iter().enumerate() {
+        if !is_blank(*b) {
+            return &bytes[at..];
+        }
+    }
+    &bytes[bytes.len()..]
+}
+
+/// The bytes behind this one, where it stands in front.
+pub fn strip(bytes: &[u8], c: u8) -> Option<&[u8]>
+    ensures { behind c bytes.now ≡ option_copied result }
+{
+    let (b, rest) = bytes.split_first()?;
+    if *b == c { Some(rest) } else { None }
+}
+
+/// The bytes behind this one, which is due in front.
+pub fn pass(bytes: &[u8], c: u8) -> Result<&[u8], Stop>
+    ensures { Gives (λ rest. rest.now) result (past c bytes.now) }
+{
+    match bytes.split_first() {
+        None => Err(Stop::Syntax(0)),
+        Some((b, rest)) => {
+            if *b == c {
+                Ok(rest)
+            } else {
+                Err(Stop::Syntax(bytes.len()))
+            }
+        }
+    }
+}
+
+/// The bytes behind this word, whose letters are due in front.
+pub fn pass_word<'a>(bytes: &'a [u8], word: &[u8]) -> Result<&'a [u8], Stop>
+    ensures { Gives (λ rest. rest.now) result (past_word word.now bytes.now) }
+{
+    let mut rest = bytes;
+    for c in word {
+        rest = pass(rest, *c)?;
+    }
+    Ok(rest)
+}
+
+/// The text behind its opening quote, and the bytes behind its closing one.
+pub fn read_plain(alloc: Global, bytes: &[u8]) -> Result<(Text, &[u8]), Stop>
+    ensures { Gives (λ x. (x.0, x.1.now)) result (text_at bytes.now) }
+{
+    let mut text = Text::new(alloc);
+    for (at, b) in bytes.iter().enumerate() {
+        if *b == b'"' {
+            return Ok((text, &bytes[at + 1..]));
+        }
+        if !is_plain(*b) {
+            return Err(Stop::Syntax(bytes.len() - at));
+        }
+        text.push(char::from(*b))?;
+    }
+    Err(Stop::Syntax(0))
+}
+
+fn is_plain(b: u8) -> bool
+    ensures { result ≡ is_plain b }
+{
+    31 < b && b < 127 && b != b'"' && b != b'\\'
+}
+
+/// A key, and the bytes behind its colon and blanks.
+pub fn read_key(alloc: Global, bytes: &[u8]) -> Result<(Text, &[u8]), Stop>
+    ensures { Gives (λ x. (x.0, x.1.now)) result (key_at bytes.now) }
+{
+    let rest = pass(bytes, b'"')?;
+    let (key, rest) = read_plain(alloc, rest)?;
+    let rest = pass(skip_blanks(rest), b':')?;
+    Ok((key, skip_blanks(rest)))
+}
