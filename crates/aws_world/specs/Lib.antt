@@ -1,5 +1,9 @@
 pub mod Connection
 pub mod Env
+pub mod FaultPlan
 pub mod FileTree
+pub mod ListDice
+pub mod MemClock
+pub mod MemSink
 pub mod Moments
 pub mod Told

@@ -6,8 +6,12 @@
 mod clock;
 mod dice;
 mod env;
+mod fault_plan;
 mod files;
 mod link;
+mod list_dice;
+mod mem_clock;
+mod mem_sink;
 mod message;
 mod sink;
 
@@ -16,5 +20,8 @@ pub use dice::{Dice, DiceFault};
 pub use env::Env;
 pub use files::{FileEnd, Files};
 pub use link::{Link, LinkFault};
+pub use list_dice::ListDice;
+pub use mem_clock::MemClock;
+pub use mem_sink::MemSink;
 pub use message::{Message, Reply, Target};
 pub use sink::{Sink, SinkFault};
