@@ -1,4 +1,5 @@
 pub mod Connection
+pub mod ConnectionLog
 pub mod Env
 pub mod FaultPlan
 pub mod FileTree
@@ -6,4 +7,6 @@ pub mod ListDice
 pub mod MemClock
 pub mod MemSink
 pub mod Moments
+pub mod ScriptLink
+pub mod Talk
 pub mod Told

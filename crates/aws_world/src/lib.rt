@@ -4,6 +4,7 @@
 #![tactic(auto)]
 
 mod clock;
+mod connection_log;
 mod dice;
 mod env;
 mod fault_plan;
@@ -13,9 +14,12 @@ mod list_dice;
 mod mem_clock;
 mod mem_sink;
 mod message;
+mod script_link;
 mod sink;
+mod talk;
 
 pub use clock::Clock;
+pub use connection_log::Kept;
 pub use dice::{Dice, DiceFault};
 pub use env::Env;
 pub use files::{FileEnd, Files};
@@ -24,4 +28,6 @@ pub use list_dice::ListDice;
 pub use mem_clock::MemClock;
 pub use mem_sink::MemSink;
 pub use message::{Message, Reply, Target};
+pub use script_link::ScriptLink;
 pub use sink::{Sink, SinkFault};
+pub use talk::Script;
