@@ -5,6 +5,7 @@ pub mod FaultPlan
 pub mod FileTree
 pub mod ListDice
 pub mod MemClock
+pub mod MemFiles
 pub mod MemSink
 pub mod Moments
 pub mod ScriptLink
