@@ -1,5 +1,5 @@
 -- Files as pairs of a path and bytes, and the folders that their paths make.
-use Rattle.std.specs.Prelude.{◌≡◌, ◌≢◌, ℕ, ◌<◌, ◌↔◌, if◌then◌else◌, Option, None, Some, List, [], ◌∷◌, ◌++◌, length, Contains, AllPairs, Any, bytes_eq, encode_utf8_all}
+use Rattle.std.specs.Prelude.{◌≡◌, ◌≢◌, ℕ, ◌<◌, ◌↔◌, if◌then◌else◌, Option, None, Some, List, [], ◌∷◌, ◌++◌, length, Contains, AllPairs, All, Any, bytes_eq, encode_utf8_all}
 use Rattle.std.specs.Ordering.{nat_cmp}
 use Rattle.std.specs.declared.cmp.Ordering.TheVariants.{Less}
 use Rattle.std.specs.Cmp.Lexicographic.{slice_cmp}
@@ -30,6 +30,13 @@ EndsPart (c ∷ cs) = c ≡ 47
 -- a path is the folder, '/', the name, and then ends or goes on with '/'
 abbrev pub IsThrough : List ℕ → List ℕ → List ℕ → Type 0
 IsThrough folder name path = (rest : List ℕ) × (path ≡ folder ++ 47 ∷ (name ++ rest)) × EndsPart rest
+
+-- the part of a path before its first '/'
+pub record IsFirstPart (path part : List ℕ) : Type 0 where
+  pub rest : List ℕ
+  pub cut : path ≡ part ++ rest
+  pub ends : EndsPart rest
+  pub whole : All (λ c. c ≢ 47) part
 
 -- a name directly below the folder: not empty, without '/', and some path goes through it
 pub record IsChild (folder : List ℕ) (files : List (List ℕ × List ℕ)) (name : List ℕ) : Type 0 where

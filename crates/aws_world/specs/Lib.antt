@@ -1,5 +1,13 @@
 pub mod Connection
+pub mod ConnectionLog
 pub mod Env
+pub mod FaultPlan
 pub mod FileTree
+pub mod ListDice
+pub mod MemClock
+pub mod MemFiles
+pub mod MemSink
 pub mod Moments
+pub mod ScriptLink
+pub mod Talk
 pub mod Told

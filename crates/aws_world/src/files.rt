@@ -2,7 +2,7 @@ ghost use Rattle.std.specs.Prelude.{◌≡◌, ℕ, ◌≤◌, Option, None, Som
 ghost use Rattle.aws_world.specs.Told.{Rose};
 ghost use Rattle.aws_world.specs.FileTree.{file_at, HasBelow, IsListing, IsLonger};
 
-use json_doc::{Bytes, List, Text};
+use json_doc::{Bytes, List, OutOfMemory, Text};
 use std::alloc::Global;
 
 /// Why a file or a folder could not be read.
@@ -15,6 +15,17 @@ pub enum FileEnd {
     /// The reading failed.
     Failed,
     OutOfMemory,
+}
+
+impl From<OutOfMemory> for FileEnd {
+    ghost use Rattle.std.specs.Prelude.{◌≡◌};
+    ghost use Rattle.aws_world.specs.declared.files.FileEnd.TheVariants.{OutOfMemory as out_of_memory};
+
+    ghost from_gives = { λ _ end. end ≡ out_of_memory };
+
+    fn from(_error: OutOfMemory) -> FileEnd {
+        FileEnd::OutOfMemory
+    }
 }
 
 /// Files that can be read and don't change.

@@ -4,17 +4,33 @@
 #![tactic(auto)]
 
 mod clock;
+mod connection_log;
 mod dice;
 mod env;
+mod fault_plan;
 mod files;
+mod folder;
 mod link;
+mod list_dice;
+mod mem_clock;
+mod mem_files;
+mod mem_sink;
 mod message;
+mod script_link;
 mod sink;
+mod talk;
 
 pub use clock::Clock;
+pub use connection_log::Kept;
 pub use dice::{Dice, DiceFault};
 pub use env::Env;
 pub use files::{FileEnd, Files};
 pub use link::{Link, LinkFault};
+pub use list_dice::ListDice;
+pub use mem_clock::MemClock;
+pub use mem_files::MemFiles;
+pub use mem_sink::MemSink;
 pub use message::{Message, Reply, Target};
+pub use script_link::ScriptLink;
 pub use sink::{Sink, SinkFault};
+pub use talk::Script;
