@@ -5,3 +5,4 @@ pub mod Places
 pub mod Literals
 pub mod Layouts
 pub mod KeyedFronts
+pub mod DecimalOrder

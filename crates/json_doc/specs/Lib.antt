@@ -8,3 +8,4 @@ pub mod Joined
 pub mod Compact
 pub mod Indented
 pub mod Layouts
+pub mod DecimalValue
