@@ -6,3 +6,5 @@ pub mod Literals
 pub mod Layouts
 pub mod KeyedFronts
 pub mod DecimalOrder
+pub mod Signed
+pub mod DecimalSum

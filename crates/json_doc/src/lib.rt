@@ -5,6 +5,7 @@
 mod bytes;
 mod copied;
 mod decimal;
+mod decimal_sum;
 mod decimal_text;
 mod decimal_value;
 mod doc;
