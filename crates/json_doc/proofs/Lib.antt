@@ -10,3 +10,6 @@ pub mod Places
 pub mod Literals
 pub mod Layouts
 pub mod KeyedFronts
+pub mod DecimalOrder
+pub mod Signed
+pub mod DecimalSum

@@ -1,6 +1,7 @@
 pub mod Ascii
 pub mod Compact
 pub mod DecimalText
+pub mod DecimalValue
 pub mod Escapes
 pub mod Grammar
 pub mod Indented

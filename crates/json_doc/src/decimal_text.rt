@@ -2,6 +2,7 @@ ghost use Rattle.std.specs.Prelude.{◌≡◌, ◌<◌, ◌+◌, ◌/◌, ◌%�
 ghost use Rattle.std.specs.Fmt.{decimal};
 ghost use Rattle.json_doc.specs.DecimalText.{sign_text, zero_filled, decimal_text};
 
+use crate::powers::ten_to;
 use crate::{Decimal, OutOfMemory, Text};
 
 /// Writes a decimal fraction without an exponent.
@@ -9,7 +10,7 @@ pub(crate) fn write_decimal(out: &mut Text, n: Decimal) -> Result<(), OutOfMemor
     ensures { OnOk result (out.new ≡ out.old ++ decimal_text n) }
 {
     write_sign(out, n.is_negative)?;
-    write_whole(out, n.magnitude / 10u128.pow(u32::from(n.scale)))?;
+    write_whole(out, n.magnitude / ten_to(n.scale))?;
     if n.scale == 0 {
         return Ok(());
     }

@@ -5,13 +5,16 @@
 mod bytes;
 mod copied;
 mod decimal;
+mod decimal_sum;
 mod decimal_text;
+mod decimal_value;
 mod doc;
 mod document_text;
 mod layout;
 mod list;
 mod memory;
 mod pairs;
+mod powers;
 mod printer;
 mod quoted;
 mod read_marks;
