@@ -1,0 +1,41 @@
+-- What a head says of the body (RFC 9112, section 6.3).
+use Rattle.std.specs.Prelude.{ℕ, Bool, ◌&&◌, ◌||◌, ◌*◌, ◌^◌, List, [], ◌∷◌, length, codes, bytes_eq, if◌then◌else◌, ◌==◌, nat_lt, nat_le}
+use Rattle.std.specs.List.{list_all}
+use Rattle.std.specs.Char.{is_ascii_digit}
+use Rattle.std.specs.Str.{str_eq_ignore_ascii_case}
+use Rattle.std.specs.Str.Parse.{digits_value}
+use Rattle.http_reply.specs.declared.kinds.Kind.{Kind}
+use Rattle.http_reply.specs.declared.kinds.Kind.TheVariants.{Interim, NoBody, Chunked, Fixed, ToEnd, Bad, TooLarge}
+use Rattle.http_reply.specs.declared.limits.TheConstants.{BODY_LIMIT}
+
+-- the values of a name, which is compared without regard to letter case
+abbrev pub named : List ℕ → List (List ℕ × List ℕ) → List (List ℕ)
+named name [] = []
+named name (field ∷ fields) =
+  if str_eq_ignore_ascii_case field.0 name then field.1 ∷ named name fields else named name fields
+
+-- the body is as long as its number says, which is digits alone
+abbrev pub kind_by_number : List ℕ → Kind
+kind_by_number value =
+  if nat_lt 0 (length value) && list_all is_ascii_digit value && nat_lt (digits_value 10 value) (2 ^ 63)
+  then (if nat_le (digits_value 10 value) BODY_LIMIT then Fixed (digits_value 10 value) else TooLarge)
+  else Bad
+
+-- by the values of Content-Length, whose copies must be equal
+abbrev pub kind_by_length : List (List ℕ) → Kind
+kind_by_length [] = ToEnd
+kind_by_length (value ∷ copies) =
+  if list_all (λ copy. bytes_eq copy value) copies then kind_by_number value else Bad
+
+-- by the values of Transfer-Encoding, which goes before Content-Length
+abbrev pub kind_by_coding : List (List ℕ) → Kind → Kind
+kind_by_coding [] other = other
+kind_by_coding (coding ∷ codings) other =
+  if list_all (λ c. str_eq_ignore_ascii_case c (codes "chunked")) (coding ∷ codings) then Chunked else Bad
+
+-- by the method, the status and the fields of the head
+abbrev pub kind_of : Bool → ℕ → List (List ℕ × List ℕ) → Kind
+kind_of head_only status fields =
+  if nat_le 100 status && nat_lt status 200 then Interim
+  else (if head_only || status == 204 || status == 304 then NoBody
+  else kind_by_coding (named (codes "transfer-encoding") fields) (kind_by_length (named (codes "content-length") fields)))

@@ -1,0 +1,9 @@
+//! Replies of HTTP/1.1 as they come in: what the bytes received so far make of a reply.
+#![tactic(auto)]
+
+mod kinds;
+mod limits;
+mod outcome;
+
+pub use limits::{BODY_LIMIT, CHUNK_LINE_LIMIT, FIELD_LIMIT, HEAD_LIMIT, LINE_LIMIT, TOTAL_LIMIT};
+pub use outcome::Outcome;
