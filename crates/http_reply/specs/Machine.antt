@@ -1,6 +1,6 @@
 -- How the bytes of a reply are taken, unit by unit: heads, chunk lines, chunks, trailer lines and
 -- bodies (RFC 9112, sections 2.1, 6.3 and 7.1).
-use Rattle.std.specs.Prelude.{◌≡◌, ℕ, zero, suc, ◌+◌, ◌≤◌, ◌⊎◌, Bool, ◌&&◌, List, [], ◌∷◌, ◌++◌, length, take, drop, map, count_by, Option, None, Some, MatchBool, if◌then◌else◌, ◌==◌, nat_le}
+use Rattle.std.specs.Prelude.{◌≡◌, ℕ, zero, suc, ◌+◌, ◌≤◌, ◌⊎◌, Bool, ◌&&◌, List, [], ◌∷◌, ◌++◌, length, take, drop, map, count_by, Option, None, Some, is_some, MatchBool, if◌then◌else◌, ◌==◌, nat_le}
 use Rattle.httparse.specs.Ascii.{line_feed, carriage_return}
 use Rattle.httparse.specs.Grammar.{ResponseHead, ReadsResponse, status_code, ChunkLine, ReadsChunkLine, chunk_size}
 use Rattle.httparse.specs.Spans.{name_and_value}
@@ -10,7 +10,7 @@ use Rattle.http_reply.specs.declared.kinds.Kind.TheVariants.{Interim, NoBody, Ch
 use Rattle.http_reply.specs.declared.outcome.Outcome.{Outcome}
 use Rattle.http_reply.specs.declared.outcome.Outcome.TheVariants.{Whole, Malformed, TooLarge}
 use Rattle.http_reply.specs.declared.limits.TheConstants.{HEAD_LIMIT, LINE_LIMIT, FIELD_LIMIT, CHUNK_LINE_LIMIT, BODY_LIMIT}
-use Rattle.http_reply.specs.Cuts.{begins_empty, head_end, line_end}
+use Rattle.http_reply.specs.Cuts.{empty_line, head_end, line_end}
 use Rattle.http_reply.specs.Kinds.{kind_of}
 
 -- what is due next. A reply has the body that the chunks so far gave; `used` counts the bytes of the
@@ -98,7 +98,7 @@ trailer_step reply used bytes None =
   if nat_le (used + length bytes) HEAD_LIMIT then wait else decide TooLarge
 trailer_step reply used bytes (Some n) =
   if nat_le (used + n) HEAD_LIMIT
-  then (if begins_empty (take n bytes) then decide (Whole reply) else move (trailers reply (used + n)) n)
+  then (if is_some (empty_line (take n bytes)) then decide (Whole reply) else move (trailers reply (used + n)) n)
   else decide TooLarge
 
 -- the step that a phase makes of the bytes
