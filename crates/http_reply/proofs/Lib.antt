@@ -1,2 +1,4 @@
 pub mod CutLemmas
 pub mod StepLemmas
+pub mod MoveLemmas
+pub mod OutcomeLemmas

@@ -1,0 +1,1 @@
+-- Bytes, an end and a fault have one outcome, which the shortest front that decides gives.
