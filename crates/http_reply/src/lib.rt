@@ -2,8 +2,10 @@
 #![tactic(auto)]
 
 mod kinds;
+mod laws;
 mod limits;
 mod outcome;
 
+pub use laws::{front_decides, has_one_outcome};
 pub use limits::{BODY_LIMIT, CHUNK_LINE_LIMIT, FIELD_LIMIT, HEAD_LIMIT, LINE_LIMIT, TOTAL_LIMIT};
 pub use outcome::Outcome;
