@@ -1,4 +1,5 @@
 pub mod CutLemmas
 pub mod StepLemmas
+pub mod KindLemmas
 pub mod MoveLemmas
 pub mod OutcomeLemmas

@@ -6,18 +6,18 @@ use Rattle.std.specs.Str.{str_eq_ignore_ascii_case}
 use Rattle.std.specs.Str.Parse.{digits_value}
 use Rattle.http_reply.specs.declared.kinds.Kind.{Kind}
 use Rattle.http_reply.specs.declared.kinds.Kind.TheVariants.{Interim, NoBody, Chunked, Fixed, ToEnd, Bad, TooLarge}
+use Rattle.http_reply.specs.Fields.{named}
 use Rattle.http_reply.specs.declared.limits.TheConstants.{BODY_LIMIT}
 
--- the values of a name, which is compared without regard to letter case
-abbrev pub named : List ℕ → List (List ℕ × List ℕ) → List (List ℕ)
-named name [] = []
-named name (field ∷ fields) =
-  if str_eq_ignore_ascii_case field.0 name then field.1 ∷ named name fields else named name fields
+-- the value is a number below 2^63, in digits alone
+abbrev pub is_length : List ℕ → Bool
+is_length value =
+  nat_lt 0 (length value) && list_all is_ascii_digit value && nat_lt (digits_value 10 value) (2 ^ 63)
 
--- the body is as long as its number says, which is digits alone
+-- the body is as long as its number says
 abbrev pub kind_by_number : List ℕ → Kind
 kind_by_number value =
-  if nat_lt 0 (length value) && list_all is_ascii_digit value && nat_lt (digits_value 10 value) (2 ^ 63)
+  if is_length value
   then (if nat_le (digits_value 10 value) BODY_LIMIT then Fixed (digits_value 10 value) else TooLarge)
   else Bad
 

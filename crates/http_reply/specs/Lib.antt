@@ -1,4 +1,5 @@
 pub mod Cuts
+pub mod Fields
 pub mod Kinds
 pub mod Laws
 pub mod Machine

@@ -1,6 +1,8 @@
 //! Replies of HTTP/1.1 as they come in: what the bytes received so far make of a reply.
 #![tactic(auto)]
 
+mod cuts;
+mod fields;
 mod kinds;
 mod laws;
 mod limits;
