@@ -1,4 +1,4 @@
--- Kinds of bodies by the first value of a name, and numbers digit by digit.
+-- Kinds of bodies by the first length, and numbers digit by digit.
 use Rattle.std.proofs.Common.{◌≡◌, ℕ, suc, ◌+◌, ◌-◌, ◌*◌, ◌^◌, ◌<◌, ◌≤◌, min, Bool, true, false, cond, eqb, leb, ltb, ◌&&◌, ◌||◌, List, [], ◌∷◌, ◌++◌, length, get_or, take, drop, Option, None, Some, refl, sym, ap, ◌∙◌, subst, arith}
 use Rattle.std.specs.Prelude.{codes, bytes_eq}
 use Rattle.std.specs.List.{list_all}
@@ -13,20 +13,7 @@ use Rattle.httparse.proofs.ChunkLemmas.{digits_value_after_push}
 use Rattle.http_reply.specs.declared.kinds.Kind.{Kind}
 use Rattle.http_reply.specs.declared.kinds.Kind.TheVariants.{Interim, NoBody, Chunked, Fixed, ToEnd, Bad, TooLarge}
 use Rattle.http_reply.specs.Fields.{first_of}
-use Rattle.http_reply.specs.Kinds.{kind_by_coding, kind_by_length, kind_by_number}
-
-pub kind_by_coding-none : (codings : List (List ℕ)) (other : Kind) → first_of codings ≡ None → kind_by_coding codings other ≡ other
-kind_by_coding-none [] other e = refl
-kind_by_coding-none (c ∷ codings) other e = cc
-
-pub kind_by_coding-some : (codings : List (List ℕ)) (other : Kind) (c : List ℕ) → first_of codings ≡ Some c
-    → kind_by_coding codings other ≡ cond (list_all (λ coding. str_eq_ignore_ascii_case coding (codes "chunked")) codings) Chunked Bad
-kind_by_coding-some [] other c e = cc
-kind_by_coding-some (d ∷ codings) other c e = refl
-
-pub kind_by_length-none : (values : List (List ℕ)) → first_of values ≡ None → kind_by_length values ≡ ToEnd
-kind_by_length-none [] e = refl
-kind_by_length-none (v ∷ values) e = cc
+use Rattle.http_reply.specs.Kinds.{kind_by_length, kind_by_number}
 
 pub kind_by_length-some : (values : List (List ℕ)) (v : List ℕ) → first_of values ≡ Some v
     → kind_by_length values ≡ cond (list_all (λ copy. bytes_eq copy v) values) (kind_by_number v) Bad

@@ -1,5 +1,6 @@
 pub mod CutLemmas
 pub mod StepLemmas
+pub mod HeadLemmas
 pub mod KindLemmas
 pub mod MoveLemmas
 pub mod OutcomeLemmas

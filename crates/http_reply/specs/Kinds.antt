@@ -1,5 +1,5 @@
 -- What a head says of the body (RFC 9112, section 6.3).
-use Rattle.std.specs.Prelude.{ℕ, Bool, ◌&&◌, ◌||◌, ◌*◌, ◌^◌, List, [], ◌∷◌, length, codes, bytes_eq, if◌then◌else◌, ◌==◌, nat_lt, nat_le}
+use Rattle.std.specs.Prelude.{ℕ, Bool, ◌&&◌, ◌||◌, ◌*◌, ◌^◌, ◌≤◌, List, [], ◌∷◌, length, codes, bytes_eq, if◌then◌else◌, ◌==◌, nat_lt, nat_le}
 use Rattle.std.specs.List.{list_all}
 use Rattle.std.specs.Char.{is_ascii_digit}
 use Rattle.std.specs.Str.{str_eq_ignore_ascii_case}
@@ -39,3 +39,13 @@ kind_of head_only status fields =
   if nat_le 100 status && nat_lt status 200 then Interim
   else (if head_only || status == 204 || status == 304 then NoBody
   else kind_by_coding (named (codes "transfer-encoding") fields) (kind_by_length (named (codes "content-length") fields)))
+
+-- a body of a known length is within the limit
+abbrev pub IsWithinLimit : Kind → Type 0
+IsWithinLimit Interim = Unit {0}
+IsWithinLimit NoBody = Unit {0}
+IsWithinLimit Chunked = Unit {0}
+IsWithinLimit (Fixed size) = size ≤ BODY_LIMIT
+IsWithinLimit ToEnd = Unit {0}
+IsWithinLimit Bad = Unit {0}
+IsWithinLimit TooLarge = Unit {0}

@@ -4,3 +4,4 @@ pub mod Kinds
 pub mod Laws
 pub mod Machine
 pub mod Outcome
+pub mod Reading

@@ -5,7 +5,7 @@ ghost use Rattle.std.specs.Char.{is_ascii_digit};
 ghost use Rattle.std.specs.Str.Parse.{digits_value};
 ghost use Rattle.httparse.specs.Spans.{IsHeaderWithin};
 ghost use Rattle.http_reply.specs.Fields.{named, fields_in};
-ghost use Rattle.http_reply.specs.Kinds.{kind_of, kind_by_length, kind_by_number, is_length};
+ghost use Rattle.http_reply.specs.Kinds.{kind_of, kind_by_length, kind_by_number, is_length, IsWithinLimit};
 
 use crate::fields::{are_chunked, are_copies, first_named};
 use crate::limits::BODY_LIMIT;
@@ -31,7 +31,8 @@ pub(crate) enum Kind {
 /// By the method, the status and the fields of the head.
 pub(crate) fn kind_of(head_only: bool, status: u16, bytes: &[u8], fields: &[HeaderSpan]) -> Kind
     requires { All (IsHeaderWithin (length bytes.now)) fields.now }
-    ensures { result ≡ kind_of head_only status (fields_in bytes.now fields.now) }
+    ensures kind { result ≡ kind_of head_only status (fields_in bytes.now fields.now) }
+    ensures within { IsWithinLimit result }
 {
     if 100 <= status && status < 200 {
         return Kind::Interim;
@@ -48,7 +49,8 @@ pub(crate) fn kind_of(head_only: bool, status: u16, bytes: &[u8], fields: &[Head
 /// By the values of Content-Length.
 fn kind_by_length(bytes: &[u8], fields: &[HeaderSpan]) -> Kind
     requires { All (IsHeaderWithin (length bytes.now)) fields.now }
-    ensures { result ≡ kind_by_length (named (codes "content-length") (fields_in bytes.now fields.now)) }
+    ensures kind { result ≡ kind_by_length (named (codes "content-length") (fields_in bytes.now fields.now)) }
+    ensures within { IsWithinLimit result }
 {
     let Some(value) = first_named(bytes, fields, b"content-length") else {
         return Kind::ToEnd;
@@ -57,7 +59,8 @@ fn kind_by_length(bytes: &[u8], fields: &[HeaderSpan]) -> Kind
 }
 
 fn kind_by_number(value: &[u8]) -> Kind
-    ensures { result ≡ kind_by_number value.now }
+    ensures kind { result ≡ kind_by_number value.now }
+    ensures within { IsWithinLimit result }
 {
     match number(value) {
         Some(size) if size <= BODY_LIMIT => Kind::Fixed(size),

@@ -3,6 +3,7 @@
 
 mod cuts;
 mod fields;
+mod heads;
 mod kinds;
 mod laws;
 mod limits;
