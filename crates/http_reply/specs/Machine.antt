@@ -101,17 +101,28 @@ trailer_step reply used bytes (Some n) =
   then (if is_some (empty_line (take n bytes)) then decide (Whole reply) else move (trailers reply (used + n)) n)
   else decide TooLarge
 
+-- a body of a known length is awaited, and ends the reply
+abbrev pub fixed_step : Reply → ℕ → List ℕ → Step
+fixed_step reply size bytes =
+  if nat_le size (length bytes) then decide (Whole (with_more reply (take size bytes))) else wait
+
+-- a chunk joins the body
+abbrev pub chunk_step : Reply → ℕ → ℕ → List ℕ → Step
+chunk_step reply used size bytes =
+  after_chunk (move (lines (with_more reply (take size bytes)) used) (size + 2)) (drop size bytes)
+
+-- a body that lasts until the peer ends is awaited up to its limit
+abbrev pub to_end_step : List ℕ → Step
+to_end_step bytes = if nat_le (length bytes) BODY_LIMIT then wait else decide TooLarge
+
 -- the step that a phase makes of the bytes
 abbrev pub Does : Bool → Phase → List ℕ → Step → Type 0
 Does head_only (heads used) bytes step = CutsHead head_only used bytes (head_end bytes) step
-Does head_only (fixed reply size) bytes step =
-  step ≡ (if nat_le size (length bytes) then decide (Whole (with_more reply (take size bytes))) else wait)
+Does head_only (fixed reply size) bytes step = step ≡ fixed_step reply size bytes
 Does head_only (lines reply used) bytes step = CutsLine reply used bytes (line_end bytes) step
-Does head_only (chunk reply used size) bytes step =
-  step ≡ after_chunk (move (lines (with_more reply (take size bytes)) used) (size + 2)) (drop size bytes)
+Does head_only (chunk reply used size) bytes step = step ≡ chunk_step reply used size bytes
 Does head_only (trailers reply used) bytes step = step ≡ trailer_step reply used bytes (line_end bytes)
-Does head_only (to_end reply) bytes step =
-  step ≡ (if nat_le (length bytes) BODY_LIMIT then wait else decide TooLarge)
+Does head_only (to_end reply) bytes step = step ≡ to_end_step bytes
 
 -- so many moves lead from one phase and bytes to another
 abbrev pub Moves : Bool → ℕ → Phase → List ℕ → Phase → List ℕ → Type 0

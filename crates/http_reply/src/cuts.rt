@@ -1,5 +1,5 @@
 //! Where the heads and the lines of a reply end.
-ghost use Rattle.std.specs.Prelude.{◌≡◌, ◌+◌, ◌≤◌, drop, option_map, length};
+ghost use Rattle.std.specs.Prelude.{◌≡◌, ◌+◌, ◌≤◌, drop, option_map, length, IfSome};
 ghost use Rattle.http_reply.specs.Cuts.{empty_line, head_end, line_end};
 
 pub(crate) const CARRIAGE_RETURN: u8 = b'\r';
@@ -21,7 +21,8 @@ pub(crate) fn empty_line(bytes: &[u8], at: usize) -> Option<usize>
 /// Where the first head ends. None ends in the bytes before `from`.
 pub(crate) fn head_end(bytes: &[u8], from: usize) -> Option<usize>
     requires { head_end bytes.now ≡ option_map (λ n. n + from) (head_end (drop from bytes.now)) }
-    ensures { result ≡ head_end bytes.now }
+    ensures end { result ≡ head_end bytes.now }
+    ensures within { IfSome result (λ n. n ≤ length bytes.now) }
 {
     for at in from..bytes.len() {
         if bytes[at] == LINE_FEED {
@@ -36,7 +37,8 @@ pub(crate) fn head_end(bytes: &[u8], from: usize) -> Option<usize>
 /// Where the first line ends. None ends in the bytes before `from`.
 pub(crate) fn line_end(bytes: &[u8], from: usize) -> Option<usize>
     requires { line_end bytes.now ≡ option_map (λ n. n + from) (line_end (drop from bytes.now)) }
-    ensures { result ≡ line_end bytes.now }
+    ensures end { result ≡ line_end bytes.now }
+    ensures within { IfSome result (λ n. n ≤ length bytes.now) }
 {
     for at in from..bytes.len() {
         if bytes[at] == LINE_FEED {

@@ -8,6 +8,7 @@ mod kinds;
 mod laws;
 mod limits;
 mod outcome;
+mod steps;
 
 pub use laws::{front_decides, has_one_outcome};
 pub use limits::{BODY_LIMIT, CHUNK_LINE_LIMIT, FIELD_LIMIT, HEAD_LIMIT, LINE_LIMIT, TOTAL_LIMIT};
