@@ -1,4 +1,6 @@
+pub mod AdvanceLemmas
 pub mod CutLemmas
+pub mod ScanLemmas
 pub mod StepLemmas
 pub mod HeadLemmas
 pub mod KindLemmas

@@ -9,8 +9,10 @@ use Rattle.http_reply.specs.declared.steps.Stepped.{Stepped}
 use Rattle.http_reply.specs.declared.steps.Stepped.TheVariants.{Waits, Moves, Ready, ReadyWith, Wrong, Big}
 use Rattle.http_reply.specs.declared.steps.ChunkEnd.{ChunkEnd}
 use Rattle.http_reply.specs.declared.steps.ChunkEnd.TheVariants.{Awaited, There, Missing}
+use Rattle.http_reply.specs.declared.reader.Reached.{Reached}
+use Rattle.http_reply.specs.declared.reader.Reached.TheVariants as reached
 use Rattle.http_reply.specs.Cuts.{head_end, line_end}
-use Rattle.http_reply.specs.Machine.{Phase, heads, fixed, lines, chunk, trailers, to_end, Step, wait, move, decide, with_more}
+use Rattle.http_reply.specs.Machine.{Phase, heads, fixed, lines, chunk, trailers, to_end, Step, wait, move, decide, with_more, Decides, Awaits}
 use Rattle.http_reply.specs.declared.limits.TheConstants.{HEAD_LIMIT, BODY_LIMIT}
 
 -- the names and values of the headers together, in characters
@@ -84,3 +86,14 @@ abbrev pub by_chunk_end : Step → ChunkEnd → Step
 by_chunk_end next Awaited = wait
 by_chunk_end next There = next
 by_chunk_end next Missing = decide Malformed
+
+-- what bytes made of the reply, from a phase on
+abbrev pub Reaches : Bool → Phase → List ℕ → Reply → Reached → Type 0
+Reaches head_only p bytes reply (reached.Waits due at) =
+  Awaits head_only p bytes (phase_of due reply) (drop at bytes) × Fits due reply × (at ≤ length bytes)
+Reaches head_only p bytes reply reached.Ready = Decides head_only p bytes (Whole reply) × IsSmall (Whole reply)
+Reaches head_only p bytes reply (reached.ReadyWith at size) =
+  Decides head_only p bytes (Whole (with_more reply (take size (drop at bytes))))
+  × (HasSmallHead reply × HasNoBody reply × (at + size ≤ length bytes) × (size ≤ BODY_LIMIT))
+Reaches head_only p bytes reply reached.Wrong = Decides head_only p bytes Malformed
+Reaches head_only p bytes reply reached.Big = Decides head_only p bytes TooLarge

@@ -8,6 +8,7 @@ mod kinds;
 mod laws;
 mod limits;
 mod outcome;
+mod reader;
 mod steps;
 
 pub use laws::{front_decides, has_one_outcome};
