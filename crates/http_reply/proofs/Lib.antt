@@ -1,5 +1,6 @@
 pub mod AdvanceLemmas
 pub mod CutLemmas
+pub mod ReadLemmas
 pub mod ScanLemmas
 pub mod StepLemmas
 pub mod HeadLemmas

@@ -5,3 +5,4 @@ pub mod Laws
 pub mod Machine
 pub mod Outcome
 pub mod Reading
+pub mod Waiting

@@ -2,7 +2,9 @@
 ghost use Rattle.std.specs.Prelude.{◌≡◌, ◌+◌, ◌≤◌, ℕ, Bool, false, List, [], ◌++◌, length, drop, take, vec_len, IfOk, IfSome, MatchOption, None, is_none};
 ghost use Rattle.aws_world.specs.declared.message.Reply.{Reply};
 ghost use Rattle.http_reply.specs.Machine.{wait, Does};
+ghost use Rattle.http_reply.specs.Outcome.{IsOutcome};
 ghost use Rattle.http_reply.specs.Reading.{IsSmall, phase_of, Fits, IsScanned, Reaches};
+ghost use Rattle.http_reply.specs.Waiting.{WaitsAfter, IsReading, Gives};
 
 use crate::limits::TOTAL_LIMIT;
 use crate::outcome::Outcome;
@@ -82,4 +84,124 @@ fn cut_front(bytes: &mut Vec<u8>, at: usize)
     let left = bytes.len() - at;
     bytes.copy_within(at.., 0);
     bytes.truncate(left);
+}
+
+/// A reply that is being read. It keeps what the bytes so far gave, and those not yet taken.
+#[derive(Debug, Drop)]
+pub struct ReplyReader {
+    head_only: bool,
+    /// How many bytes were received.
+    count: usize,
+    due: Due,
+    /// The head, and what the chunks so far gave of the body.
+    reply: Reply,
+    /// The bytes that are not yet taken.
+    rest: Vec<u8>,
+}
+
+fn empty_reply(alloc: Global) -> Reply
+    ensures { Fits (Due.Heads 0) result }
+{
+    Reply {
+        status: 0,
+        headers: List::new(alloc),
+        body: Bytes::new(alloc),
+    }
+}
+
+impl ReplyReader {
+    /// A reader of no bytes yet. To a request whose method was HEAD no body is sent.
+    pub fn new(alloc: Global, head_only: bool) -> ReplyReader
+        ensures { WaitsAfter head_only [] result }
+    {
+        ReplyReader {
+            head_only,
+            count: 0,
+            due: Due::Heads(0),
+            reply: empty_reply(alloc),
+            rest: Vec::new(alloc),
+        }
+    }
+
+    /// The reply, taken out.
+    fn take_reply(&mut self, alloc: Global) -> Reply
+        ensures { result ≡ self.old.reply }
+    {
+        mem::replace(&mut self.reply, empty_reply(alloc))
+    }
+
+    /// The reply with some of the bytes that are left as its body, taken out.
+    fn take_with_body(&mut self, alloc: Global, at: usize, size: usize) -> Reply
+        requires { at + size ≤ vec_len self.old.rest }
+        ensures { result ≡ record self.old.reply { body = take size (drop at self.old.rest.items) } }
+    {
+        let mut body = mem::replace(&mut self.rest, Vec::new(alloc));
+        cut_front(&mut body, at);
+        body.truncate(size);
+        let mut reply = self.take_reply(alloc);
+        reply.body = Bytes::from_vec(body);
+        reply
+    }
+
+    /// Takes in bytes that keep the limit of all.
+    fn read_within(&mut self, alloc: Global, piece: &[u8]) -> Result<Option<Outcome>, OutOfMemory>
+        requires reads { IsReading self.old }
+        requires few { self.old.count + length piece.now ≤ TOTAL_LIMIT }
+        ensures gives { (head_only : Bool) (received : List ℕ) → WaitsAfter head_only received self.old
+            → IfOk result (Gives head_only (received ++ piece.now) self.new) }
+        ensures small { IfOk result (λ outcome. IfSome outcome IsSmall) }
+    {
+        let from = scanned(self.due, self.rest.len());
+        self.rest.extend_from_slice(piece)?;
+        self.count += piece.len();
+        match advance(alloc, self.head_only, &self.rest, from, self.due, &mut self.reply)? {
+            Reached::Waits(due, at) => {
+                self.due = due;
+                cut_front(&mut self.rest, at);
+                Ok(None)
+            }
+            Reached::Ready => Ok(Some(Outcome::Whole(self.take_reply(alloc)))),
+            Reached::ReadyWith(at, size) => {
+                Ok(Some(Outcome::Whole(self.take_with_body(alloc, at, size))))
+            }
+            Reached::Wrong => Ok(Some(Outcome::Malformed)),
+            Reached::Big => Ok(Some(Outcome::TooLarge)),
+        }
+    }
+
+    /// Takes in one more piece, and answers the outcome once the bytes decide it. After an outcome
+    /// the reader is done with.
+    pub fn read(&mut self, alloc: Global, piece: &[u8]) -> Option<Outcome>
+        requires { IsReading self.old }
+        ensures gives { (head_only : Bool) (received : List ℕ) → WaitsAfter head_only received self.old
+            → Gives head_only (received ++ piece.now) self.new result }
+        ensures small { IfSome result IsSmall }
+    {
+        let left = TOTAL_LIMIT - self.count;
+        let (seen, _) = piece.split_at(left.min(piece.len()));
+        match self.read_within(alloc, seen) {
+            Err(OutOfMemory) => Some(Outcome::OutOfMemory),
+            Ok(Some(outcome)) => Some(outcome),
+            Ok(None) if piece.len() > left => Some(Outcome::TooLarge),
+            Ok(None) => None,
+        }
+    }
+
+    /// The outcome where no more bytes come: the peer ended, or the connection had a fault.
+    pub fn finish(self, fault: Option<LinkFault>) -> Outcome
+        requires { IsReading self }
+        ensures outcome { (head_only : Bool) (received : List ℕ) → WaitsAfter head_only received self
+            → IsOutcome head_only received (is_none fault) fault result }
+        ensures small { IsSmall result }
+    {
+        if let Some(kind) = fault {
+            return Outcome::Lost(kind);
+        }
+        let Due::ToEnd = self.due else {
+            return Outcome::Cut;
+        };
+        let ReplyReader { mut reply, rest, .. } = self;
+        reply.body = Bytes::from_vec(rest);
+        Outcome::Whole(reply)
+    }
 }
