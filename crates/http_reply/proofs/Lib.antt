@@ -1,0 +1,10 @@
+pub mod AdvanceLemmas
+pub mod CutLemmas
+pub mod ReadLemmas
+pub mod ScanLemmas
+pub mod StepLemmas
+pub mod HeadLemmas
+pub mod KindLemmas
+pub mod LineLemmas
+pub mod MoveLemmas
+pub mod OutcomeLemmas

@@ -1,0 +1,8 @@
+use Rattle.std.proofs.Common.{◌≡◌, ◌+◌, drop}
+use Rattle.std.specs.Prelude.{option_map}
+use Rattle.http_reply.specs.Cuts.{line_end}
+use Rattle.http_reply.proofs.cuts.line_end.Given as goal
+
+-- what is left to search gives where the first one ends
+abbrev pub invariant-loop-at : goal.invariant-loop-at
+invariant-loop-at l = line_end l.bytes ≡ option_map (λ n. n + l.at) (line_end (drop l.at l.bytes))

@@ -1,0 +1,11 @@
+use Rattle.std.proofs.Common.{◌≡◌, drop}
+use Rattle.std.specs.Prelude.{codes, bytes_eq}
+use Rattle.std.specs.List.{list_all}
+use Rattle.http_reply.specs.Fields.{named, fields_in}
+use Rattle.http_reply.proofs.fields.are_copies.Given as goal
+
+-- what is left decides for all
+abbrev pub invariant-loop-field : goal.invariant-loop-field
+invariant-loop-field l =
+    list_all (λ copy. bytes_eq copy l.value) (named (codes "content-length") (fields_in l.bytes l.fields))
+    ≡ list_all (λ copy. bytes_eq copy l.value) (named (codes "content-length") (fields_in l.bytes (drop l.field-index l.fields)))

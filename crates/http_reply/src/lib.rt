@@ -1,0 +1,16 @@
+//! Replies of HTTP/1.1 as they come in: what the bytes received so far make of a reply.
+#![tactic(auto)]
+
+mod cuts;
+mod fields;
+mod heads;
+mod kinds;
+mod laws;
+mod limits;
+mod outcome;
+mod reader;
+mod steps;
+
+pub use laws::{front_decides, has_one_outcome};
+pub use limits::{BODY_LIMIT, CHUNK_LINE_LIMIT, FIELD_LIMIT, HEAD_LIMIT, LINE_LIMIT, TOTAL_LIMIT};
+pub use outcome::Outcome;
