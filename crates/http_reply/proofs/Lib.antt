@@ -1,4 +1,5 @@
 pub mod AdvanceLemmas
+pub mod CaseLemmas
 pub mod CutLemmas
 pub mod ReadLemmas
 pub mod ScanLemmas

@@ -18,3 +18,7 @@ first_of (x ∷ xs) = Some x
 -- the fields that spans of the bytes cover
 abbrev pub fields_in : List ℕ → List HeaderSpan → List (List ℕ × List ℕ)
 fields_in bytes spans = map (header_bytes bytes) spans
+
+-- the value of a header: the first of its name
+abbrev pub header_of : List ℕ → List (List ℕ × List ℕ) → Option (List ℕ)
+header_of name fields = first_of (named name fields)

@@ -3,6 +3,7 @@
 
 mod cuts;
 mod fields;
+mod headers;
 mod heads;
 mod kinds;
 mod laws;
@@ -11,6 +12,8 @@ mod outcome;
 mod reader;
 mod steps;
 
+pub use headers::header;
 pub use laws::{front_decides, has_one_outcome};
 pub use limits::{BODY_LIMIT, CHUNK_LINE_LIMIT, FIELD_LIMIT, HEAD_LIMIT, LINE_LIMIT, TOTAL_LIMIT};
 pub use outcome::Outcome;
+pub use reader::ReplyReader;

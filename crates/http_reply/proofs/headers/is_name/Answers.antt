@@ -1,0 +1,6 @@
+use Rattle.http_reply.proofs.CaseLemmas.{same_but_case}
+use Rattle.http_reply.proofs.headers.is_name.Goals as goal
+
+pub returns : goal.returns
+returns c =
+    same_but_case c.eq_ignore_ascii_case.result c.args.text.now c.as_str.result.now c.args.name.now c.as_str.ensures.bytes c.utf8.name c.eq_ignore_ascii_case.ensures.test
