@@ -19,6 +19,8 @@ mod message;
 mod script_link;
 mod sink;
 mod talk;
+#[cfg(test)]
+mod tests;
 
 pub use clock::Clock;
 pub use connection_log::Kept;

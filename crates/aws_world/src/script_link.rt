@@ -1,4 +1,7 @@
-ghost use Rattle.std.specs.Prelude.{◌<◌};
+ghost use Rattle.std.specs.Prelude.{◌≡◌, ◌<◌, ◌≤◌};
+ghost use Rattle.aws_world.specs.Told.{Tells, Rose};
+ghost use Rattle.aws_world.specs.Connection.{on_last, faulted};
+ghost use Rattle.aws_world.specs.ConnectionLog.{told_of};
 
 use crate::connection_log::{ConnectionLog, Kept};
 use crate::talk::{Script, Talk};
@@ -139,8 +142,7 @@ impl Link for ScriptLink {
                 Ok(count)
             }
             Err(fault) => {
-                self.faults = self.faults.saturating_add(1);
-                self.log.add_fault(fault);
+                note_fault(&mut self.log, &mut self.faults, fault);
                 Err(fault)
             }
         }
@@ -184,8 +186,7 @@ impl Link for ScriptLink {
                 Ok(count)
             }
             Err(fault) => {
-                self.faults = self.faults.saturating_add(1);
-                self.log.add_fault(fault);
+                note_fault(&mut self.log, &mut self.faults, fault);
                 Err(fault)
             }
         }
@@ -200,4 +201,15 @@ impl Link for ScriptLink {
     {
         self.talk = None;
     }
+}
+
+/// Counts a fault, with which the last connection ended.
+fn note_fault(log: &mut ConnectionLog, faults: &mut u64, fault: LinkFault)
+    ensures told { Tells (told_of log.old) (told_of log.new)
+        (λ before after. after ≡ on_last (faulted fault) before) }
+    ensures later { faults.old ≤ faults.new }
+    ensures rose { Rose faults.old faults.new }
+{
+    *faults = faults.saturating_add(1);
+    log.add_fault(fault);
 }
