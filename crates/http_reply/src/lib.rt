@@ -17,3 +17,6 @@ pub use laws::{front_decides, has_one_outcome};
 pub use limits::{BODY_LIMIT, CHUNK_LINE_LIMIT, FIELD_LIMIT, HEAD_LIMIT, LINE_LIMIT, TOTAL_LIMIT};
 pub use outcome::Outcome;
 pub use reader::ReplyReader;
+
+#[cfg(test)]
+mod tests;

@@ -1,5 +1,5 @@
 //! Reading a reply from the pieces in which it comes.
-ghost use Rattle.std.specs.Prelude.{◌≡◌, ◌+◌, ◌≤◌, ℕ, Bool, false, List, [], ◌++◌, length, drop, take, vec_len, IfOk, IfSome, MatchOption, None, is_none};
+ghost use Rattle.std.specs.Prelude.{◌≡◌, ◌+◌, ◌≤◌, ℕ, Bool, false, List, [], ◌++◌, length, drop, take, vec_len, IfOk, IfSome, IfNone, is_none};
 ghost use Rattle.aws_world.specs.declared.message.Reply.{Reply};
 ghost use Rattle.http_reply.specs.Machine.{wait, Does};
 ghost use Rattle.http_reply.specs.Outcome.{IsOutcome};
@@ -175,6 +175,7 @@ impl ReplyReader {
         requires { IsReading self.old }
         ensures gives { (head_only : Bool) (received : List ℕ) → WaitsAfter head_only received self.old
             → Gives head_only (received ++ piece.now) self.new result }
+        ensures reads { IfNone result (IsReading self.new) }
         ensures small { IfSome result IsSmall }
     {
         let left = TOTAL_LIMIT - self.count;

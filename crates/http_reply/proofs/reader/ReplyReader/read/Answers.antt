@@ -25,3 +25,7 @@ returns-in-Ok-None-2-clause-gives c = λ head_only received waits.
         subst (Gives head_only (received ++ c.split_at.result.0.now) c.read_within.new.self) c.in-Ok-None.field-0-is (c.in-Ok-None.ensures.gives head_only received waits) in
     let whole = c.split_at.ensures.front ∙ take_all c.min.result c.args.piece.now (omega arith) in
     subst (λ b. WaitsAfter head_only (received ++ b) c.read_within.new.self) whole gives
+
+pub returns-in-Ok-None-2-clause-reads : goal.returns-in-Ok-None-2-clause-reads
+returns-in-Ok-None-2-clause-reads c =
+    (c.requires.0, c.requires.1 ++ c.args.piece.now, returns-in-Ok-None-2-clause-gives c c.requires.0 c.requires.1 c.requires.2)
