@@ -1,13 +1,19 @@
-use Rattle.std.proofs.Common.{◌+◌, ◌/◌, ◌%◌, ◌∷◌, [], arith}
+use Rattle.std.proofs.Common.{◌≡◌, ◌<◌, ◌+◌, ◌++◌, ◌∷◌, [], arith}
 use Rattle.std.specs.Fmt.{decimal}
 use Rattle.std.proofs.lemmas.Fmt.{decimal_step_wide}
 use Rattle.json_doc.proofs.Places.{decimal-last, appended}
 use Rattle.json_doc.proofs.decimal_text.+write_whole.Goals as goal
 
-pub returns-then-n-lt10 : goal.returns-then-n-lt10
-returns-then-n-lt10 t c = rw (decimal-last c.args.n c.if-n-lt10.true) c.write_last_digit.ensures
+pub returns-then-front-eq0 : goal.returns-then-front-eq0
+returns-then-front-eq0 t c =
+    let small : c.args.n < 10 = omega arith in
+    rw (decimal-last c.args.n small, ← c.split_last-front.ensures.last) c.write_digit.ensures
 
 pub returns : goal.returns
 returns t c =
-    let whole = appended c.args.out.now c.write_whole.new.out (decimal (c.args.n / 10)) ((48 + c.args.n % 10) ∷ []) (decimal c.args.n) c.in_ok-write_whole.ensures (decimal_step_wide c.args.n (omega arith) (omega arith)) in
-    rw whole at c.write_last_digit-2.ensures
+    let front = c.split_last-front.result.0 in
+    let digit = (48 + c.split_last-front.result.1) ∷ [] in
+    let split : decimal c.args.n ≡ decimal front ++ digit =
+    rw (c.split_last-front.ensures.front, c.split_last-front.ensures.last) (decimal_step_wide c.args.n (omega arith) (omega arith)) in
+    let whole = appended c.args.out.now c.write_whole.new.out (decimal front) digit (decimal c.args.n) c.in_ok-write_whole.ensures split in
+    rw whole at c.write_digit-2.ensures
