@@ -1,0 +1,132 @@
+ghost use Rattle.std.specs.Prelude.{◌≡◌, false, None, is_some};
+
+use aws_world::{Link, LinkFault};
+use json_doc::Text;
+use std::io;
+use std::io::{ErrorKind, Read, Write};
+use std::net::TcpStream;
+use std::time::Duration;
+
+/// How long a peer may be silent, in seconds.
+const READ_TIMEOUT: u64 = 60;
+
+/// TCP connections.
+#[derive(Drop)]
+pub struct RealLink<'a> {
+    rt: &'a HostRuntime,
+    stream: Option<TcpStream>,
+    heard: bool,
+    faults: u64,
+}
+
+impl<'a> RealLink<'a> {
+    pub fn new(rt: &'a HostRuntime) -> RealLink<'a>
+        ensures { is_some result.stream ≡ false }
+    {
+        RealLink {
+            rt,
+            stream: None,
+            heard: false,
+            faults: 0,
+        }
+    }
+
+    fn open(&self, host: &str, port: u16) -> io::Result<TcpStream> {
+        let stream = TcpStream::connect(self.rt, (host, port))?;
+        stream.set_read_timeout(Some(Duration::from_secs(READ_TIMEOUT)))?;
+        Ok(stream)
+    }
+}
+
+/// What an error of a live connection is.
+fn fault_of(error: &io::Error) -> LinkFault {
+    match error.kind() {
+        ErrorKind::WouldBlock | ErrorKind::TimedOut => LinkFault::Timeout,
+        _ => LinkFault::Broken,
+    }
+}
+
+impl Link for RealLink<'_> {
+    ghost told = { λ _. None };
+
+    ghost live = { λ link. is_some link.stream };
+
+    ghost heard = { λ link. link.heard };
+
+    ghost faults = { λ link. link.faults };
+
+    fn connect(&mut self, host: &Text, port: u16) -> Result<(), LinkFault> {
+        self.heard = false;
+        match self.open(host.as_str(), port) {
+            Ok(stream) => {
+                self.stream = Some(stream);
+                Ok(())
+            }
+            Err(_) => {
+                self.faults = self.faults.saturating_add(1);
+                Err(LinkFault::Connect)
+            }
+        }
+    }
+
+    fn send(&mut self, piece: &[u8]) -> Result<usize, LinkFault> {
+        let Some(stream) = &mut self.stream else {
+            unreachable!()
+        };
+        let fault = match stream.write(piece) {
+            Ok(count) if count > 0 => return Ok(count),
+            Ok(_) => LinkFault::Broken,
+            Err(error) => fault_of(&error),
+        };
+        self.faults = self.faults.saturating_add(1);
+        Err(fault)
+    }
+
+    fn receive(&mut self, room: &mut [u8]) -> Result<usize, LinkFault> {
+        self.heard = true;
+        let Some(stream) = &mut self.stream else {
+            unreachable!()
+        };
+        match stream.read(room) {
+            Ok(count) => Ok(count),
+            Err(error) => {
+                self.faults = self.faults.saturating_add(1);
+                Err(fault_of(&error))
+            }
+        }
+    }
+
+    fn close(&mut self) {
+        self.stream = None;
+    }
+}
+
+#[cfg(test)]
+mod tests {
+    use super::*;
+    use std::net::TcpListener;
+    use std::test::Fail;
+
+    #[test]
+    fn talks_over_loopback(rt: HostRuntime) -> Result<(), Fail> {
+        let listener = TcpListener::bind(&rt, "127.0.0.1:0")?;
+        let port = listener.local_addr()?.port();
+        let host = Text::from_str(rt.alloc(), "127.0.0.1")?;
+        let mut link = RealLink::new(&rt);
+        assert_eq!(rt; link.connect(&host, port), Ok(()));
+        let (mut peer, _) = listener.accept()?;
+        assert_eq!(rt; link.send(b"ping"), Ok(4));
+        let mut room = [0u8; 8];
+        assert_eq!(rt; peer.read(&mut room)?, 4);
+        assert_eq!(rt; room[..4], *b"ping");
+        peer.write_all(b"pong")?;
+        drop(peer);
+        assert_eq!(rt; link.receive(&mut room), Ok(4));
+        assert_eq!(rt; room[..4], *b"pong");
+        assert_eq!(rt; link.receive(&mut room), Ok(0));
+        link.close();
+        drop(listener);
+        assert_eq!(rt; link.connect(&host, port), Err(LinkFault::Connect));
+        Ok(())
+    }
+}

@@ -1,0 +1,132 @@
+ghost use Rattle.std.specs.Prelude.{◌≡◌};
+ghost use Rattle.aws_main.specs.declared.causes.Unread.TheVariants as unread;
+ghost use Rattle.aws_main.specs.declared.causes.Unbuilt.TheVariants as unbuilt;
+ghost use Rattle.aws_main.specs.Causes.{status_of, unread_of, unanswered_of, cause_of_unread, cause_of_unanswered};
+
+use aws_world::LinkFault;
+use json_doc::{OutOfMemory, Text};
+
+/// Why a command ended.
+#[derive(Debug, Drop)]
+pub enum Cause {
+    /// All of the work was done.
+    Done,
+    /// The command needs a part that isn't built.
+    NotBuilt,
+    /// The file or folder at this path could not be read.
+    FileFault(Text),
+    /// The link failed before a reply was whole.
+    Lost(LinkFault),
+    /// Standard output took nothing more.
+    OutFault,
+    OutOfMemory,
+}
+
+impl Cause {
+    /// The exit status: 0 after all of the work, else 255.
+    pub fn status(&self) -> u8
+        ensures { result ≡ status_of self.now }
+    {
+        match self {
+            Cause::Done => 0,
+            _ => 255,
+        }
+    }
+}
+
+/// How a command ended.
+#[derive(Debug, Drop)]
+pub struct Ending {
+    /// The exit status.
+    pub status: u8,
+    pub cause: Cause,
+    /// The token to go on from, where a walk over pages was cut.
+    pub next: Option<Text>,
+    /// How many primary items a walk over pages gave.
+    pub items: u64,
+}
+
+/// Why a part of the work that reads no file was not done.
+#[derive(Clone, Copy, Debug, PartialEq, Eq)]
+pub enum Unbuilt {
+    NotBuilt,
+    OutOfMemory,
+}
+
+impl From<OutOfMemory> for Unbuilt {
+    ghost from_gives = { λ _ e. e ≡ unbuilt.OutOfMemory };
+
+    fn from(_error: OutOfMemory) -> Unbuilt {
+        Unbuilt::OutOfMemory
+    }
+}
+
+/// Why a part of the work that reads files was not done.
+#[derive(Debug, Drop)]
+pub enum Unread {
+    NotBuilt,
+    FileFault(Text),
+    OutOfMemory,
+}
+
+impl From<OutOfMemory> for Unread {
+    ghost from_gives = { λ _ e. e ≡ unread.OutOfMemory };
+
+    fn from(_error: OutOfMemory) -> Unread {
+        Unread::OutOfMemory
+    }
+}
+
+impl Unread {
+    pub fn into_cause(self) -> Cause
+        ensures { result ≡ cause_of_unread self }
+    {
+        match self {
+            Unread::NotBuilt => Cause::NotBuilt,
+            Unread::FileFault(path) => Cause::FileFault(path),
+            Unread::OutOfMemory => Cause::OutOfMemory,
+        }
+    }
+}
+
+impl From<Unbuilt> for Unread {
+    ghost from_gives = { λ e f. f ≡ unread_of e };
+
+    fn from(error: Unbuilt) -> Unread {
+        match error {
+            Unbuilt::NotBuilt => Unread::NotBuilt,
+            Unbuilt::OutOfMemory => Unread::OutOfMemory,
+        }
+    }
+}
+
+/// Why a request got no answer.
+#[derive(Clone, Copy, Debug, PartialEq, Eq)]
+pub enum Unanswered {
+    NotBuilt,
+    Lost(LinkFault),
+    OutOfMemory,
+}
+
+impl Unanswered {
+    pub fn into_cause(self) -> Cause
+        ensures { result ≡ cause_of_unanswered self }
+    {
+        match self {
+            Unanswered::NotBuilt => Cause::NotBuilt,
+            Unanswered::Lost(fault) => Cause::Lost(fault),
+            Unanswered::OutOfMemory => Cause::OutOfMemory,
+        }
+    }
+}
+
+impl From<Unbuilt> for Unanswered {
+    ghost from_gives = { λ e f. f ≡ unanswered_of e };
+
+    fn from(error: Unbuilt) -> Unanswered {
+        match error {
+            Unbuilt::NotBuilt => Unanswered::NotBuilt,
+            Unbuilt::OutOfMemory => Unanswered::OutOfMemory,
+        }
+    }
+}

@@ -1,0 +1,16 @@
+//! The command: from its words to its output.
+#![tactic(auto)]
+
+mod asking;
+mod causes;
+mod documents;
+mod messages;
+mod models;
+mod outputs;
+mod requests;
+mod running;
+mod searching;
+mod sinks;
+
+pub use causes::{Cause, Ending};
+pub use running::run;

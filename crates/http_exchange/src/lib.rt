@@ -1,0 +1,11 @@
+//! One HTTP/1.1 exchange: a request's bytes, one connection, and the outcome.
+#![tactic(auto)]
+
+mod exchanging;
+mod receiving;
+mod sending;
+mod writing;
+
+pub use exchanging::exchange;
+pub use http_reply::Outcome;
+pub use writing::wire;
