@@ -1,6 +1,7 @@
 pub mod Causes
 pub mod Folders
 pub mod Last
+pub mod Moments
 pub mod Names
 pub mod Pieces
 pub mod Told

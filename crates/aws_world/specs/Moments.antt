@@ -13,3 +13,7 @@ with_moment moment before = record before { given = before.given ++ moment ∷ [
 -- one more pause asked for
 abbrev pub with_pause : ℕ → Moments → Moments
 with_pause ms before = record before { pauses = before.pauses ++ ms ∷ [] }
+
+-- more moments given and more pauses asked for
+abbrev pub with_more : List ℤ → List ℕ → Moments → Moments
+with_more moments pauses before = record { given = before.given ++ moments; pauses = before.pauses ++ pauses }
