@@ -1,5 +1,5 @@
 -- The order of decimal fractions: by whole parts and then by what is left.
-use Rattle.std.proofs.Common.{true, false, ◌≡◌, ◌≢◌, ℕ, ◌+◌, ◌-◌, ◌*◌, ◌/◌, ◌%◌, ◌^◌, ◌<◌, ◌≤◌, Less, Equal, Greater, Ordering, arith, refl, sym, ap, ◌∙◌}
+use Rattle.std.proofs.Common.{true, false, ◌≡◌, ◌≢◌, ℕ, ◌+◌, ◌-◌, ◌*◌, ◌/◌, ◌%◌, ◌^◌, ◌<◌, ◌≤◌, Less, Equal, Greater, Ordering, arith, sym, ap, ◌∙◌}
 use Rattle.std.specs.Cmp.{nat_cmp_is, int_cmp_is}
 use Rattle.std.specs.Ordering.{MatchOrdering, nat_cmp}
 use Rattle.std.proofs.Math.Nat.{mul-le-mul_right, le_of_mul-le-mul_right, lt_of_mul-lt-mul_right, mul-lt-mul_of_pos_right}

@@ -1,5 +1,5 @@
 -- Sums of decimal fractions, and the least form of a fraction.
-use Rattle.std.proofs.Common.{suc, ◌≡◌, ◌≢◌, ℕ, ◌+◌, ◌-◌, ◌*◌, ◌/◌, ◌%◌, ◌^◌, ◌<◌, ◌≤◌, Bool, true, false, ◌+ℤ◌, ◌⊎◌, inl, inr, ⊎_elim, arith, refl, sym, ap, ◌∙◌}
+use Rattle.std.proofs.Common.{suc, ◌≡◌, ℕ, ◌+◌, ◌-◌, ◌*◌, ◌/◌, ◌%◌, ◌^◌, ◌<◌, ◌≤◌, Bool, true, false, ◌+ℤ◌, ◌⊎◌, inl, inr, ⊎_elim, arith, refl, sym, ap, ◌∙◌}
 use Rattle.std.specs.Prelude.{Option, Some, None, IfSome, IfNone}
 use Rattle.std.proofs.lemmas.Bool.{cases_lt}
 use Rattle.std.proofs.lemmas.Nat.{pow-add}
@@ -9,7 +9,7 @@ use Rattle.json_doc.specs.DecimalValue.{signed, IsSum}
 use Rattle.json_doc.specs.Least.{IsLeast}
 use Rattle.json_doc.proofs.DecimalOrder.{mul_cancel}
 use Rattle.json_doc.proofs.Places.{pow_ten-pos}
-use Rattle.json_doc.proofs.Signed.{signed-size, signed-scale, signed-cancel, sum-scale, sum-same, sum-less, sum-more}
+use Rattle.json_doc.proofs.Signed.{signed-size, signed-scale, signed-cancel, sum-scale, sum-same, sum-more}
 
 ten-power : (p : ℕ) → 0 < p → 10 ^ p ≡ 10 ^ (p - 1) * 10
 ten-power p some = let e : p ≡ suc (p - 1) = omega arith in ap (λ k. 10 ^ k) e ∙ pow-suc 10 (p - 1)

@@ -17,7 +17,7 @@ use Rattle.json_doc.specs.DecimalText.{decimal_text}
 use Rattle.json_doc.specs.Escapes.{quoted}
 use Rattle.json_doc.specs.Indented.{indented_at, indented_step, indented_field, lines, line}
 use Rattle.json_doc.specs.Joined.{joined}
-use Rattle.json_doc.specs.Layouts.{text_at, before_part, after_parts, rest_of_parts, parts_text, field_text}
+use Rattle.json_doc.specs.Layouts.{text_at, before_part, after_parts, parts_text, field_text}
 
 pub text_at-Null : (layout : Layout) (level : ℕ) → text_at layout level Null ≡ codes "null"
 text_at-Null Compact level = search (rules, the_lemmas)
@@ -81,6 +81,11 @@ pub text_at-Fields : (layout : Layout) (level : ℕ) (ps : List (Pair Doc)) → 
 text_at-Fields Compact level ps = compact-Fields ps
 text_at-Fields Indented level ps = indented-Fields ps level
 
+-- the parts that are left, each with what stands before it
+abbrev pub rest_of_parts : Layout → ℕ → Bool → List (List ℕ) → List ℕ
+rest_of_parts layout level is_first [] = []
+rest_of_parts layout level is_first (t ∷ ts) = before_part layout level is_first ++ t ++ rest_of_parts layout level false ts
+
 rest-others : (layout : Layout) (level : ℕ) (ts : List (List ℕ)) → rest_of_parts layout level false ts ≡ flat_map (λ t. before_part layout level false ++ t) ts
 rest-others layout level [] = refl
 rest-others layout level (t ∷ ts) = ap (λ rest. before_part layout level false ++ t ++ rest) (rest-others layout level ts)
@@ -94,10 +99,6 @@ parts_text-whole Indented level (t ∷ ts) =
     let some : (length (t ∷ ts) == 0) ≡ false = grind (arith, nat_tests) in
     rw (some, rest-others Indented (level + 1) ts)
     (ap (λ cs. cs ++ line level) (append_assoc (line (level + 1)) t (flat_map (λ u. 44 ∷ line (level + 1) ++ u) ts)))
-
--- one part more: what stands before it, and its text
-pub rest_of_parts-more : (layout : Layout) (level : ℕ) (is_first : Bool) (t : List ℕ) (ts : List (List ℕ)) (out : List ℕ) → out ++ before_part layout level is_first ++ t ++ rest_of_parts layout level false ts ≡ out ++ rest_of_parts layout level is_first (t ∷ ts)
-rest_of_parts-more layout level is_first t ts out = simp append_assoc
 
 -- a text between two brackets, written after what stood there
 pub bracketed : (out out' out'' parts : List ℕ) (opening closing : ℕ) → out' ≡ out ++ opening ∷ [] → out'' ≡ out' ++ parts → out'' ++ closing ∷ [] ≡ out ++ (opening ∷ parts ++ closing ∷ [])

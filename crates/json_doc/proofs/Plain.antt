@@ -8,7 +8,7 @@ use Rattle.std.proofs.lemmas.List.{get_or-take, length-take-le, get_or_past, app
 use Rattle.std.proofs.lemmas.List.Concat.{flat_map-append}
 use Rattle.std.proofs.lemmas.List.Elements.{All-from_get_or, recursion_from_All}
 use Rattle.std.proofs.lemmas.List.Sums.{prefix_len_passes, prefix_len-le-length}
-use Rattle.std.proofs.lemmas.Str.{IsUtf8-from_ascii, IsUtf8-drop, IsUtf8-past_char, IsCharBoundary-from_take, chars-IsAscii, chars-append, chars-nil, chars_past_char}
+use Rattle.std.proofs.lemmas.Str.{IsUtf8-from_ascii, IsUtf8-drop, IsCharBoundary-from_take, chars-IsAscii, chars-append, chars-nil, chars_past_char}
 use Rattle.std.specs.Prelude.{encode_utf8}
 use Rattle.json_doc.specs.declared.layout.Layout.{Layout}
 use Rattle.json_doc.specs.declared.layout.Layout.TheVariants.{Compact, Indented}

@@ -1,5 +1,5 @@
 -- Whole numbers with their signs, added and scaled.
-use Rattle.std.proofs.Common.{◌≡◌, ◌≢◌, ℕ, ◌+◌, ◌-◌, ◌*◌, ◌<◌, ◌≤◌, Bool, true, false, ◌+ℤ◌, arith, refl, sym, ap, ◌∙◌}
+use Rattle.std.proofs.Common.{◌≡◌, ◌≢◌, ℕ, ◌+◌, ◌-◌, ◌*◌, ◌<◌, ◌≤◌, Bool, true, false, ◌+ℤ◌, arith, refl, ap}
 use Rattle.std.proofs.lemmas.Int.{ints}
 use Rattle.json_doc.specs.DecimalValue.{signed}
 use Rattle.json_doc.proofs.DecimalOrder.{mul_cancel}
@@ -39,15 +39,6 @@ signed-size true true x y e = omega (arith, ints)
 signed-size true false x y e = omega (arith, ints)
 signed-size false true x y e = omega (arith, ints)
 signed-size false false x y e = omega (arith, ints)
-
-pub signed-zero : (n n' : Bool) → signed n 0 ≡ signed n' 0
-signed-zero n n' = same_in n n' 0 0 (zeros n n')
-  where
-    zeros : (n n' : Bool) → above n 0 + below n' 0 ≡ below n 0 + above n' 0
-    zeros true true = refl
-    zeros true false = refl
-    zeros false true = refl
-    zeros false false = refl
 
 pub signed-scale : (n n' : Bool) (x y k : ℕ) → signed n x ≡ signed n' y → signed n (x * k) ≡ signed n' (y * k)
 signed-scale n n' x y k e =
@@ -90,12 +81,6 @@ sum-same true true x y e = omega (arith, ints)
 sum-same false false x y e = omega (arith, ints)
 sum-same true false x y e = absurd cc
 sum-same false true x y e = absurd cc
-
-pub sum-less : (a b : Bool) (x y : ℕ) → a ≢ b → x < y → signed b (y - x) ≡ signed a x +ℤ signed b y
-sum-less true true x y other less = absurd (other refl)
-sum-less false false x y other less = absurd (other refl)
-sum-less true false x y other less = omega (arith, ints)
-sum-less false true x y other less = omega (arith, ints)
 
 pub sum-more : (a b : Bool) (x y : ℕ) → a ≢ b → y ≤ x → signed a (x - y) ≡ signed a x +ℤ signed b y
 sum-more true true x y other more = absurd (other refl)

@@ -27,11 +27,6 @@ after_parts Compact level is_empty = []
 after_parts Indented level true = []
 after_parts Indented level false = line level
 
--- the parts that are left, each with what stands before it
-abbrev pub rest_of_parts : Layout → ℕ → Bool → List (List ℕ) → List ℕ
-rest_of_parts layout level is_first [] = []
-rest_of_parts layout level is_first (t ∷ ts) = before_part layout level is_first ++ t ++ rest_of_parts layout level false ts
-
 -- the parts of a list or an object whose brackets are at a level
 abbrev pub parts_text : Layout → ℕ → List (List ℕ) → List ℕ
 parts_text Compact level ts = joined (codes ", ") ts

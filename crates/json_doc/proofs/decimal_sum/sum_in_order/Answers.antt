@@ -1,4 +1,4 @@
-use Rattle.std.proofs.Common.{◌≡◌, ◌≤◌, ◌*◌, ◌^◌, ap, ◌∙◌, arith}
+use Rattle.std.proofs.Common.{◌≤◌, ◌*◌, ◌^◌, ap, ◌∙◌, arith}
 use Rattle.json_doc.proofs.DecimalSum.{raised_magnitude, sum_found, none_found, too_large}
 use Rattle.json_doc.proofs.decimal_sum.sum_in_order.Goals as goal
 

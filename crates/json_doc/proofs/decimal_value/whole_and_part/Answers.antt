@@ -1,4 +1,4 @@
-use Rattle.std.proofs.Common.{◌%◌, ◌*◌, ◌-◌, ◌^◌, ◌<◌, arith}
+use Rattle.std.proofs.Common.{arith}
 use Rattle.json_doc.proofs.DecimalOrder.{whole_and_part-is, part-fits}
 use Rattle.json_doc.proofs.decimal_value.whole_and_part.Goals as goal
 

@@ -1,4 +1,4 @@
-use Rattle.std.proofs.Common.{◌+◌, ◌++◌, map, ap, ◌∙◌, arith}
+use Rattle.std.proofs.Common.{◌+◌, ◌++◌, map, ap, ◌∙◌}
 use Rattle.json_doc.specs.Layouts.{text_at, parts_text, field_text}
 use Rattle.json_doc.proofs.Layouts.{text_at-Null, text_at-Items, text_at-Fields, bracketed, parts_text-end}
 use Rattle.json_doc.proofs.Literals.{chars-null}

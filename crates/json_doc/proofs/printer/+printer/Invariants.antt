@@ -1,7 +1,8 @@
 use Rattle.std.proofs.Common.{◌≡◌, ◌+◌, ◌*◌, ◌++◌, true, drop, map}
 use denote.Param.Weighed.{most}
 use Rattle.json_doc.specs.declared.doc.Doc.{size-Doc}
-use Rattle.json_doc.specs.Layouts.{text_at, field_text, rest_of_parts}
+use Rattle.json_doc.specs.Layouts.{text_at, field_text}
+use Rattle.json_doc.proofs.Layouts.{rest_of_parts}
 use Rattle.json_doc.proofs.printer.+printer.Given as goal
 
 abbrev pub decreases-write_doc : goal.decreases-write_doc

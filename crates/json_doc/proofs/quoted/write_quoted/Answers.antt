@@ -1,7 +1,7 @@
-use Rattle.std.proofs.Common.{◌≡◌, ◌++◌, ◌∷◌, [], length, take, drop, sym, ap, ◌∙◌}
+use Rattle.std.proofs.Common.{◌++◌, ◌∷◌, [], length, take, drop, sym, ap, ◌∙◌}
 use Rattle.std.specs.List.{flat_map, prefix_len}
 use Rattle.std.specs.Str.{chars}
-use Rattle.json_doc.specs.Escapes.{escaped, quoted}
+use Rattle.json_doc.specs.Escapes.{escaped}
 use Rattle.json_doc.specs.Plain.{is_plain}
 use Rattle.json_doc.proofs.Plain.{IsCharBoundary-run, escaped-turn, escaped-last, between_quotes}
 use Rattle.json_doc.proofs.quoted.write_quoted.Goals as goal

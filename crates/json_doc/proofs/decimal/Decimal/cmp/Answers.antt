@@ -1,4 +1,3 @@
-use Rattle.std.proofs.Common.{Less, Greater, arith}
 use Rattle.json_doc.proofs.DecimalOrder.{value_cmp-less, value_cmp-greater}
 use Rattle.json_doc.proofs.decimal.Decimal.cmp.Goals as goal
 
