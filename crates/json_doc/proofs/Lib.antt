@@ -1,4 +1,5 @@
 pub mod Complete
+pub mod Gathering
 pub mod Keyed
 pub mod Once
 pub mod Shorter

@@ -1,4 +1,5 @@
 pub mod formers
+pub mod Gathered
 pub mod Grammar
 pub mod Keys
 pub mod Least

@@ -8,6 +8,7 @@ mod doc;
 mod list;
 mod memory;
 mod pairs;
+mod read_fields;
 mod read_marks;
 mod read_value;
 mod reader;

@@ -1,4 +1,4 @@
-ghost use Rattle.std.specs.Prelude.{◌≡◌, ◌<◌, ◌++◌, ◌∷◌, [], length, slice_set, OnOk, OnErr, IfSome, IfNone};
+ghost use Rattle.std.specs.Prelude.{◌≡◌, ◌<◌, ◌++◌, ◌∷◌, [], length, slice_set, IfOk, OnOk, OnErr, IfSome, IfNone};
 ghost use Rattle.json_doc.specs.Keys.{keys, value_at, IsNew, IsDistinct, put};
 ghost use Rattle.std.specs.Option.{option_copied};
 
@@ -40,6 +40,24 @@ impl<T> Pairs<T> {
         Pairs {
             items: List::new(alloc),
         }
+    }
+
+    /// No pairs, and room for this many.
+    pub fn with_capacity(alloc: Global, capacity: usize) -> Result<Pairs<T>, OutOfMemory>
+        ensures { IfOk result (λ pairs. pairs ≡ []) }
+    {
+        let items = Vec::with_capacity(alloc, capacity)?;
+        Ok(Pairs {
+            items: List::from_vec(items),
+        })
+    }
+
+    /// The vector of the pairs, given back without taking memory.
+    pub fn into_vec(self) -> Vec<Pair<T>>
+        ensures same { result.items ≡ self }
+        ensures distinct { IsDistinct (keys self) }
+    {
+        self.items.into_vec()
     }
 
     pub fn as_slice(&self) -> &[Pair<T>]

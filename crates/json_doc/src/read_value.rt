@@ -2,6 +2,7 @@ ghost use Rattle.std.specs.Prelude.{◌≡◌, IfOk, IfErr, Ok, Err};
 ghost use Rattle.json_doc.specs.Reading.{Gives, Stops};
 ghost use Rattle.json_doc.specs.Scan.{Value, Array, Object, scalar_at};
 
+use crate::read_fields::{Gathered, into_pairs, with_field};
 use crate::read_marks::{pass_word, read_key, read_plain, skip_blanks, strip};
 use crate::{Doc, List, Pairs, Stop};
 use std::alloc::Global;
@@ -63,18 +64,18 @@ fn read_object(alloc: Global, depth: usize, bytes: &[u8]) -> Result<(Pairs<Doc>,
     ensures read { IfOk result (λ x. Object depth bytes.now (Ok (x.0, x.1.now))) }
     ensures fault { IfErr result (Stops (λ s. Object depth bytes.now (Err s))) }
 {
-    let mut fields = Pairs::new(alloc);
     if let Some(rest) = strip(bytes, b'}') {
-        return Ok((fields, rest));
+        return Ok((Pairs::new(alloc), rest));
     }
+    let mut fields = Gathered::Few(Pairs::new(alloc));
     let mut rest = bytes;
     loop {
         let (key, after) = read_key(alloc, rest)?;
         let (value, after) = read_value(alloc, depth, after)?;
-        fields.put(key, value)?;
+        fields = with_field(alloc, fields, key, value)?;
         let after = skip_blanks(after);
         if let Some(end) = strip(after, b'}') {
-            return Ok((fields, end));
+            return Ok((into_pairs(alloc, fields)?, end));
         }
         let Some(more) = strip(after, b',') else {
             return Err(Stop::Syntax(after.len()));

@@ -38,7 +38,7 @@ read_array-loop-items-preserved t c = λ o rest.
     (rw c.skip_blanks-after.ensures.value at c.in-Some-strip-2.ensures) (rw (c.in_ok-push.ensures.ok, c.skip_blanks-rest.ensures.value) at rest))
 
 pub read_object-returns-in-Some-clause-read : goal.read_object-returns-in-Some-clause-read
-read_object-returns-in-Some-clause-read t c = rw c.new-fields.ensures (Object.empty_object c.in-Some.ensures)
+read_object-returns-in-Some-clause-read t c = rw c.new.ensures (Object.empty_object c.in-Some.ensures)
 
 pub read_object-returns-in_err-key-clause-fault : goal.read_object-returns-in_err-key-clause-fault
 read_object-returns-in_err-key-clause-fault t c =
@@ -54,7 +54,7 @@ read_object-returns-in_err-value-clause-fault t c =
 pub read_object-returns-in-Some-strip-clause-read :
     goal.read_object-returns-in-Some-strip-clause-read
 read_object-returns-in-Some-strip-clause-read t c =
-    rw c.in_ok-put.ensures.ok (Object.full_object c.in_default.ensures
+    rw (c.in_ok-into_pairs.ensures, c.in_ok-fields.ensures) (Object.full_object c.in_default.ensures
     (c.loop-fields.invariant _ (Members.last_member c.in_ok-key.ensures c.in_ok-value.ensures.read (rw c.skip_blanks-after.ensures.value at c.in-Some-strip.ensures))))
 
 pub read_object-returns-in_default-strip-2-clause-fault :
@@ -74,7 +74,7 @@ read_object-loop-fields-smaller t c =
 pub read_object-loop-fields-preserved : goal.read_object-loop-fields-preserved
 read_object-loop-fields-preserved t c = λ o rest.
     c.loop-fields.invariant o (Members.more_members c.in_ok-key.ensures c.in_ok-value.ensures.read (rw c.skip_blanks-after.ensures.value at c.in_default-strip.ensures)
-    (rw c.skip_blanks-after.ensures.value at c.in-Some-strip-2.ensures) (rw (c.in_ok-put.ensures.ok, c.skip_blanks-rest.ensures.value) at rest))
+    (rw c.skip_blanks-after.ensures.value at c.in-Some-strip-2.ensures) (rw (c.in_ok-fields.ensures, c.skip_blanks-rest.ensures.value) at rest))
 
 pub read_value-returns-then-depth-ge-MOST_DEEP-clause-fault :
     goal.read_value-returns-then-depth-ge-MOST_DEEP-clause-fault
