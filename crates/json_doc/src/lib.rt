@@ -8,6 +8,7 @@ mod doc;
 mod list;
 mod memory;
 mod pairs;
+mod stop;
 mod text;
 
 pub use bytes::Bytes;
