@@ -1,2 +1,9 @@
+pub mod Escapes
+pub mod EscapesAgain
 pub mod Keyed
+pub mod TextScans
+pub mod TextSteps
 pub mod Texts
+pub mod TokenParts
+pub mod Utf8Bytes
+pub mod Utf8Parts

@@ -10,6 +10,7 @@ mod memory;
 mod pairs;
 mod stop;
 mod text;
+mod text_token;
 
 pub use bytes::Bytes;
 pub use decimal::Decimal;
