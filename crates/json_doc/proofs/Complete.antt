@@ -11,7 +11,9 @@ use Rattle.json_doc.specs.Keys.{put}
 use Rattle.json_doc.specs.Reading.{Read, ◌>>=◌}
 use Rattle.json_doc.specs.Grammar.{Ws, Structural, String, put_all, Reads}
 use Rattle.json_doc.specs.Grammar as g
-use Rattle.json_doc.specs.Scan.{made, is_blank, is_plain, skipped, behind, past, text_at, scalar_at, key_at, ended, Value, Array, Object, Elements, Members, Scans}
+use Rattle.json_doc.specs.Scan.{made, is_blank, skipped, behind, past, scalar_at, key_at, ended, Value, Array, Object, Elements, Members, Scans}
+use Rattle.json_doc.specs.TextToken.{text_at}
+use Rattle.json_doc.proofs.TextScans.{text_at-spelled}
 use Rattle.json_doc.proofs.Once.{behind-is, other-behind}
 use Rattle.json_doc.proofs.Sound.{Ws-skipped, past-is, IfOk-bind}
 
@@ -30,18 +32,8 @@ taken b x y e = ap (λ v. if v then x else y) e
 left_out : {A : Type 0} (b : Bool) (x y : A) → b ≡ false → (if b then x else y) ≡ y
 left_out b x y e = ap (λ v. if v then x else y) e
 
-plain-no_quote : (b : ℕ) → is_plain b ≡ true → b == 34 ≡ false
-plain-no_quote b plain =
-    elim (b == 34) as (λ v. b == 34 ≡ v → v ≡ false)
-    [ true ↦ (λ e. absurd (false≢true (subst (λ c. is_plain c ≡ true) (eqb-true b 34 e) plain))) | false ↦ (λ e. refl) ] refl
-
-plain-read : (t rest : List ℕ) → AllByRecursion (λ b. IsTrue (is_plain b)) t → text_at (t ++ 34 ∷ rest) ≡ Ok (t, rest)
-plain-read [] rest h = refl
-plain-read (b ∷ t) rest h =
-    left_out (b == 34) _ _ (plain-no_quote b h.0) ∙ taken (is_plain b) _ _ h.0 ∙ ap (made (λ t. b ∷ t)) (plain-read t rest h.1)
-
 text-read : (bs t rest : List ℕ) → String bs t rest → (ks : List ℕ) × (bs ≡ 34 ∷ ks) × (text_at ks ≡ Ok (t, rest))
-text-read bs t rest (plain, e) = (t ++ 34 ∷ rest, e, plain-read t rest plain)
+text-read bs t rest (chars, e, h) = (chars, e, text_at-spelled chars t rest h)
 
 always : {A : Type 0} (o : Read A) (P : Type 0) → P → IfOk o (λ _. P)
 always (Ok x) P h = h
@@ -107,8 +99,12 @@ ReadsValue n bs d rest = (ws : List ℕ) × Value n (skipped bs) (Ok (d, ws)) ×
 
 mutual
   value_complete : {n : ℕ} {bs : List ℕ} {d : Doc} {rest : List ℕ} → g.Value n bs d rest → Ends rest → ReadsValue n bs d rest
-  value_complete (g.Value.null {n = n} {bs = bs} {rest = rest} e) ends =
+  value_complete (g.Value.false_name {n = n} {bs = bs} {rest = rest} e) ends =
+      subst (λ cs. ReadsValue n cs (doc.Flag false) rest) (sym e) (rest, Value.scalar refl refl refl, refl)
+  value_complete (g.Value.null_name {n = n} {bs = bs} {rest = rest} e) ends =
       subst (λ cs. ReadsValue n cs doc.Null rest) (sym e) (rest, Value.scalar refl refl refl, refl)
+  value_complete (g.Value.true_name {n = n} {bs = bs} {rest = rest} e) ends =
+      subst (λ cs. ReadsValue n cs (doc.Flag true) rest) (sym e) (rest, Value.scalar refl refl refl, refl)
   value_complete (g.Value.string {n = n} {bs = bs} {t = t} {rest = rest} s) ends =
       let h = text-read bs t rest s in
       subst (λ cs. ReadsValue n cs (doc.Str t) rest) (sym h.1) (rest, Value.scalar refl refl (ap (made doc.Str) h.2), refl)

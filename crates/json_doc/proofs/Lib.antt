@@ -1,4 +1,6 @@
 pub mod Complete
+pub mod Escapes
+pub mod EscapesAgain
 pub mod Gathering
 pub mod Keyed
 pub mod Once
@@ -6,3 +8,8 @@ pub mod Shorter
 pub mod Sound
 pub mod Stopping
 pub mod Texts
+pub mod TextScans
+pub mod TextSteps
+pub mod TokenParts
+pub mod Utf8Bytes
+pub mod Utf8Parts

@@ -1,5 +1,6 @@
 -- What is behind a part is no longer than the part's bytes.
-use Rattle.std.proofs.Common.{◌≡◌, ◌==◌, ℕ, ◌<◌, ◌≤◌, Bool, true, false, if◌then◌else◌, List, [], ◌∷◌, length, Some, None, Result, Ok, Err, subst, arith}
+use Rattle.std.proofs.Common.{◌≡◌, ◌==◌, ℕ, ◌<◌, ◌≤◌, Bool, true, false, if◌then◌else◌, List, [], ◌∷◌, length, Some, None, Result, Ok, Err, refl, ap, subst, arith, length-append}
+use Rattle.json_doc.proofs.TextScans.{text_at_ok}
 use Rattle.std.specs.Prelude.{codes}
 use Rattle.json_doc.specs.declared.doc.Doc as doc
 use Rattle.json_doc.specs.declared.doc.Doc.{Doc}
@@ -7,7 +8,8 @@ use Rattle.json_doc.specs.declared.pairs.Pair.{Pair}
 use Rattle.json_doc.specs.declared.stop.Stop.{Stop}
 use Rattle.json_doc.specs.declared.stop.Stop.TheVariants.{Syntax}
 use Rattle.json_doc.specs.Reading.{Read, ◌>>=◌}
-use Rattle.json_doc.specs.Scan.{made, is_blank, is_plain, skipped, behind, past, past_word, text_at, scalar_at, key_at, Value, Array, Object, Elements, Members}
+use Rattle.json_doc.specs.TextToken.{text_at}
+use Rattle.json_doc.specs.Scan.{made, is_blank, skipped, behind, past, past_word, named, scalar_at, key_at, Value, Array, Object, Elements, Members}
 
 abbrev Within : {A : Type 0} → List ℕ → Read A → Type 0
 Within bs (Ok x) = length x.1 ≤ length bs
@@ -66,25 +68,24 @@ past_word-le : (word bs : List ℕ) → Left bs (past_word word bs)
 past_word-le [] bs = omega arith
 past_word-le (c ∷ cs) bs = left-left bs (past c bs) (past_word cs) (past-le c bs) (past_word-le cs)
 
-named-within : (d : Doc) (word bs : List ℕ) → Within bs (past_word word bs >>= (λ rest. Ok (d, rest)))
+named-within : (d : Doc) (word bs : List ℕ) → Within bs (named d word bs)
 named-within d word bs = bind-left bs (past_word word bs) (λ rest. Ok (d, rest)) (past_word-le word bs) (λ cs. omega arith)
 
+within-from : {A : Type 0} (bs : List ℕ) (o : Read A) → ((x : A × List ℕ) → o ≡ Ok x → length x.1 ≤ length bs) → Within bs o
+within-from bs (Ok x) f = f x refl
+within-from bs (Err stop) f = tt
+
 text_at-within : (bs : List ℕ) → Within bs (text_at bs)
-text_at-within [] = tt
-text_at-within (b ∷ bs) =
-    let rest = made-within (λ t. b ∷ t) (b ∷ bs) (text_at bs) (wider bs (b ∷ bs) (text_at bs) (omega arith) (text_at-within bs)) in
-    let fault : Read (List ℕ) = Err (Syntax (length (b ∷ bs))) in
-    either (Within (b ∷ bs)) (b == 34) (Ok ([], bs)) (if is_plain b then made (λ t. b ∷ t) (text_at bs) else fault) (omega arith)
-    (either (Within (b ∷ bs)) (is_plain b) (made (λ t. b ∷ t) (text_at bs)) fault rest tt)
+text_at-within bs = within-from bs (text_at bs) (λ x e. let t = text_at_ok bs x e in omega (arith, ap length t.2, length-append t.0 (34 ∷ x.1)))
 
 scalar_at-within : (bs : List ℕ) → Within bs (scalar_at bs)
 scalar_at-within [] = tt
 scalar_at-within (b ∷ bs) =
     let more : length bs ≤ length (b ∷ bs) = omega arith in
-    let fault : Read Doc = Err (Syntax (length (b ∷ bs))) in
     let text = wider bs (b ∷ bs) (made doc.Str (text_at bs)) more (made-within doc.Str bs (text_at bs) (text_at-within bs)) in
-    let null = wider bs (b ∷ bs) _ more (named-within doc.Null (codes "ull") bs) in
-    either (Within (b ∷ bs)) (b == 34) _ _ text (either (Within (b ∷ bs)) (b == 110) _ fault null tt)
+    let word = λ (d : Doc) (w : List ℕ). wider bs (b ∷ bs) (named d w bs) more (named-within d w bs) in
+    either (Within (b ∷ bs)) (b == 34) _ _ text (either (Within (b ∷ bs)) (b == 102) _ _ (word (doc.Flag false) (codes "alse"))
+    (either (Within (b ∷ bs)) (b == 110) _ _ (word doc.Null (codes "ull")) (either (Within (b ∷ bs)) (b == 116) _ _ (word (doc.Flag true) (codes "rue")) tt)))
 
 key-within : (bs : List ℕ) → Within bs (key_at bs)
 key-within bs =

@@ -5,3 +5,4 @@ pub mod Keys
 pub mod Least
 pub mod Reading
 pub mod Scan
+pub mod TextToken

@@ -8,6 +8,7 @@ use Rattle.json_doc.specs.declared.stop.Stop.{Stop}
 use Rattle.json_doc.specs.declared.stop.Stop.TheVariants.{Syntax, TooDeep}
 use Rattle.json_doc.specs.Keys.{put}
 use Rattle.json_doc.specs.Reading.{Read, ◌>>=◌}
+use Rattle.json_doc.specs.TextToken.{text_at}
 
 -- the same with another value
 abbrev pub made : {A B : Type 0} → (A → B) → Read A → Read B
@@ -38,22 +39,19 @@ abbrev pub past_word : List ℕ → List ℕ → Result (List ℕ) Stop
 past_word [] bs = Ok bs
 past_word (c ∷ cs) bs = past c bs >>= past_word cs
 
--- a character that stands for itself
-abbrev pub is_plain : ℕ → Bool
-is_plain b = nat_lt 31 b && nat_lt b 127 && (if b == 34 || b == 92 then false else true)
-
--- a text behind its opening quote
-abbrev pub text_at : List ℕ → Read (List ℕ)
-text_at [] = Err (Syntax 0)
-text_at (b ∷ bs) = if b == 34 then Ok ([], bs) else (if is_plain b then made (λ t. b ∷ t) (text_at bs) else Err (Syntax (length (b ∷ bs))))
+-- a value that is one word
+abbrev pub named : Doc → List ℕ → List ℕ → Read Doc
+named d word bs = past_word word bs >>= (λ rest. Ok (d, rest))
 
 -- a value without brackets
 abbrev pub scalar_at : List ℕ → Read Doc
 scalar_at [] = Err (Syntax 0)
 scalar_at (b ∷ bs) =
     if b == 34 then made doc.Str (text_at bs) else
-    (if b == 110 then past_word (codes "ull") bs >>= (λ rest. Ok (doc.Null, rest)) else
-    Err (Syntax (length (b ∷ bs))))
+    (if b == 102 then named (doc.Flag false) (codes "alse") bs else
+    (if b == 110 then named doc.Null (codes "ull") bs else
+    (if b == 116 then named (doc.Flag true) (codes "rue") bs else
+    Err (Syntax (length (b ∷ bs))))))
 
 -- a key, its colon, and blanks
 abbrev pub key_at : List ℕ → Read (List ℕ)

@@ -14,6 +14,7 @@ mod read_value;
 mod reader;
 mod stop;
 mod text;
+mod text_token;
 
 pub use bytes::Bytes;
 pub use decimal::Decimal;
@@ -22,5 +23,4 @@ pub use list::List;
 pub use memory::OutOfMemory;
 pub use pairs::{Pair, Pairs};
 pub use reader::{ReadFault, read};
-pub use stop::Stop;
 pub use text::Text;

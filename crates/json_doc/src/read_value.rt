@@ -3,8 +3,10 @@ ghost use Rattle.json_doc.specs.Reading.{Gives, Stops};
 ghost use Rattle.json_doc.specs.Scan.{Value, Array, Object, scalar_at};
 
 use crate::read_fields::{Gathered, into_pairs, with_field};
-use crate::read_marks::{pass_word, read_key, read_plain, skip_blanks, strip};
-use crate::{Doc, List, Pairs, Stop};
+use crate::read_marks::{pass_word, read_key, skip_blanks, strip};
+use crate::stop::Stop;
+use crate::text_token::read_text;
+use crate::{Doc, List, Pairs};
 use std::alloc::Global;
 
 /// How many arrays and objects may stand in one another.
@@ -89,12 +91,17 @@ fn read_scalar(alloc: Global, bytes: &[u8]) -> Result<(Doc, &[u8]), Stop>
     ensures { Gives (λ x. (x.0, x.1.now)) result (scalar_at bytes.now) }
 {
     if let Some(rest) = strip(bytes, b'"') {
-        let (text, rest) = read_plain(alloc, rest)?;
+        let (text, rest) = read_text(alloc, rest)?;
         return Ok((Doc::Str(text), rest));
     }
+    if let Some(rest) = strip(bytes, b'f') {
+        return Ok((Doc::Flag(false), pass_word(rest, b"alse")?));
+    }
     if let Some(rest) = strip(bytes, b'n') {
-        let rest = pass_word(rest, b"ull")?;
-        return Ok((Doc::Null, rest));
+        return Ok((Doc::Null, pass_word(rest, b"ull")?));
+    }
+    if let Some(rest) = strip(bytes, b't') {
+        return Ok((Doc::Flag(true), pass_word(rest, b"rue")?));
     }
     Err(Stop::Syntax(bytes.len()))
 }

@@ -7,7 +7,8 @@ ghost use Rattle.json_doc.specs.Scan.{Scans};
 
 use crate::read_marks::skip_blanks;
 use crate::read_value::read_value;
-use crate::{Doc, Stop};
+use crate::stop::Stop;
+use crate::Doc;
 use std::alloc::Global;
 
 /// Why bytes were not read.
@@ -56,7 +57,7 @@ mod tests {
             (r#" [ "a" , {"b":null} ] "#, true),
             ("[1]", false),
             (r#"{"a":"x","a":[]}"#, true),
-            ("[\"\\n\"]", false),
+            ("[\"\\n\"]", true),
             ("[null,]", false),
         ];
         for (text, is_read) in rows {
