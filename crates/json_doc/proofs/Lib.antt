@@ -4,12 +4,15 @@ pub mod EscapesAgain
 pub mod Gathering
 pub mod Keyed
 pub mod Once
+pub mod Refusals
 pub mod Shorter
 pub mod Sound
 pub mod Stopping
 pub mod Texts
+pub mod TextLeft
 pub mod TextScans
 pub mod TextSteps
 pub mod TokenParts
 pub mod Utf8Bytes
 pub mod Utf8Parts
+pub mod Within

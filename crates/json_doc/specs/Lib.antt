@@ -1,3 +1,4 @@
+pub mod Faults
 pub mod formers
 pub mod Gathered
 pub mod Grammar
