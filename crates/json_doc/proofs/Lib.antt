@@ -1,6 +1,8 @@
+pub mod Decimals
 pub mod Escapes
 pub mod EscapesAgain
 pub mod Keyed
+pub mod LeastForms
 pub mod TextScans
 pub mod TextSteps
 pub mod Texts

@@ -1,5 +1,6 @@
-pub mod formers
+pub mod Exact
 pub mod Keys
 pub mod Least
 pub mod Reading
 pub mod TextToken
+pub mod formers

@@ -4,6 +4,7 @@
 
 mod bytes;
 mod decimal;
+mod decimal_parts;
 mod doc;
 mod list;
 mod memory;
