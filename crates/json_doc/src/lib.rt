@@ -8,6 +8,7 @@ mod decimal_parts;
 mod doc;
 mod list;
 mod memory;
+mod number_token;
 mod pairs;
 mod stop;
 mod text;
