@@ -1,9 +1,12 @@
+pub mod Exact
 pub mod Faults
 pub mod formers
 pub mod Gathered
 pub mod Grammar
 pub mod Keys
 pub mod Least
+pub mod NumberParts
+pub mod NumberToken
 pub mod Reading
 pub mod Scan
 pub mod TextToken

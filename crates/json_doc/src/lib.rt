@@ -4,9 +4,11 @@
 
 mod bytes;
 mod decimal;
+mod decimal_parts;
 mod doc;
 mod list;
 mod memory;
+mod number_token;
 mod pairs;
 mod read_fault;
 mod read_fields;
