@@ -5,6 +5,7 @@ pub mod EscapesAgain
 pub mod Gathering
 pub mod Keyed
 pub mod LeastForms
+pub mod Local
 pub mod Once
 pub mod Refusals
 pub mod Shorter
@@ -12,6 +13,7 @@ pub mod Sound
 pub mod Stopping
 pub mod TextLeft
 pub mod Texts
+pub mod TextLocal
 pub mod TextScans
 pub mod TextSteps
 pub mod TokenParts

@@ -11,28 +11,28 @@ use Rattle.json_doc.specs.Reading.{Read, ◌>>=◌, byte_in}
 use Rattle.json_doc.specs.TextToken.{tail_at, two_at, three_at, four_at, utf8_at, hex_in, low_half_at, unit_at, unicode_at, named_char, escape_at, char_at, text_within, text_at}
 use Rattle.json_doc.proofs.Within.{Within, either, wider, bind-within}
 
-byte_in-within : (low high : ℕ) (bs : List ℕ) → Within bs (byte_in low high bs)
+pub byte_in-within : (low high : ℕ) (bs : List ℕ) → Within bs (byte_in low high bs)
 unfolding byte_in
 byte_in-within low high [] = omega arith
 byte_in-within low high (b ∷ bs) = either (Within (b ∷ bs)) (is_in_range low high b) (Ok (b, bs)) (Err (Syntax (length (b ∷ bs)))) (omega arith) (omega arith)
 
-two_at-within : (b : ℕ) (bs : List ℕ) → Within bs (two_at b bs)
+pub two_at-within : (b : ℕ) (bs : List ℕ) → Within bs (two_at b bs)
 unfolding two_at
 two_at-within b bs = bind-within bs (tail_at bs) _ (byte_in-within 0x80 0xBF bs) (λ c. omega arith)
 
-three_at-within : (b : ℕ) (bs : List ℕ) → Within bs (three_at b bs)
+pub three_at-within : (b : ℕ) (bs : List ℕ) → Within bs (three_at b bs)
 unfolding three_at
 three_at-within b bs =
     bind-within bs (byte_in (second_byte_min b) (second_byte_max b) bs) _ (byte_in-within (second_byte_min b) (second_byte_max b) bs)
     (λ c. bind-within c.1 (tail_at c.1) _ (byte_in-within 0x80 0xBF c.1) (λ d. omega arith))
 
-four_at-within : (b : ℕ) (bs : List ℕ) → Within bs (four_at b bs)
+pub four_at-within : (b : ℕ) (bs : List ℕ) → Within bs (four_at b bs)
 unfolding four_at
 four_at-within b bs =
     bind-within bs (byte_in (second_byte_min b) (second_byte_max b) bs) _ (byte_in-within (second_byte_min b) (second_byte_max b) bs)
     (λ c. bind-within c.1 (tail_at c.1) _ (byte_in-within 0x80 0xBF c.1) (λ d. bind-within d.1 (tail_at d.1) _ (byte_in-within 0x80 0xBF d.1) (λ e. omega arith)))
 
-utf8_at-within : (bs : List ℕ) → Within bs (utf8_at bs)
+pub utf8_at-within : (bs : List ℕ) → Within bs (utf8_at bs)
 unfolding utf8_at
 utf8_at-within [] = omega arith
 utf8_at-within (b ∷ bs) =
@@ -43,47 +43,47 @@ utf8_at-within (b ∷ bs) =
     (either P (is_in_range 0xE0 0xEF b) _ _ (wider bs (b ∷ bs) (three_at b bs) more (three_at-within b bs))
     (either P (is_in_range 0xF0 0xF4 b) _ _ (wider bs (b ∷ bs) (four_at b bs) more (four_at-within b bs)) (omega arith))))
 
-hex_in-within : (low high : ℕ) (bs : List ℕ) → Within bs (hex_in low high bs)
+pub hex_in-within : (low high : ℕ) (bs : List ℕ) → Within bs (hex_in low high bs)
 unfolding hex_in
 hex_in-within low high [] = omega arith
 hex_in-within low high (b ∷ bs) =
     either (Within (b ∷ bs)) (is_in_range low high (digit_value b)) (Ok (digit_value b, bs)) (Err (Syntax (length (b ∷ bs)))) (omega arith) (omega arith)
 
-low_half_at-within : (high : ℕ) (bs : List ℕ) → Within bs (low_half_at high bs)
+pub low_half_at-within : (high : ℕ) (bs : List ℕ) → Within bs (low_half_at high bs)
 unfolding low_half_at
 low_half_at-within high bs =
     bind-within bs _ _ (byte_in-within 0x5C 0x5C bs) (λ a. bind-within a.1 _ _ (byte_in-within 0x75 0x75 a.1) (λ b.
     bind-within b.1 _ _ (hex_in-within 13 13 b.1) (λ c. bind-within c.1 _ _ (hex_in-within 12 15 c.1) (λ d.
     bind-within d.1 _ _ (hex_in-within 0 15 d.1) (λ e. bind-within e.1 _ _ (hex_in-within 0 15 e.1) (λ f. omega arith))))))
 
-unit_at-within : (bs : List ℕ) → Within bs (unit_at bs)
+pub unit_at-within : (bs : List ℕ) → Within bs (unit_at bs)
 unfolding unit_at
 unit_at-within bs =
     bind-within bs _ _ (hex_in-within 0 15 bs) (λ a. bind-within a.1 _ _ (hex_in-within 0 (if a.0 == 13 then 11 else 15) a.1) (λ b.
     bind-within b.1 _ _ (hex_in-within 0 15 b.1) (λ c. bind-within c.1 _ _ (hex_in-within 0 15 c.1) (λ d. omega arith))))
 
-unicode_at-within : (bs : List ℕ) → Within bs (unicode_at bs)
+pub unicode_at-within : (bs : List ℕ) → Within bs (unicode_at bs)
 unfolding unicode_at
 unicode_at-within bs =
     bind-within bs (unit_at bs) _ (unit_at-within bs) (λ u.
     either (Within u.1) (is_high_surrogate u.0) (low_half_at u.0 u.1) (Ok u) (low_half_at-within u.0 u.1) (omega arith))
 
-named-within : (o : Option ℕ) (b : ℕ) (bs : List ℕ) → Within (b ∷ bs) (ok_or o (Syntax (length (b ∷ bs))) >>= (λ c. Ok (c, bs)))
+pub named-within : (o : Option ℕ) (b : ℕ) (bs : List ℕ) → Within (b ∷ bs) (ok_or o (Syntax (length (b ∷ bs))) >>= (λ c. Ok (c, bs)))
 named-within (Some c) b bs = omega arith
 named-within None b bs = omega arith
 
-escape_at-within : (bs : List ℕ) → Within bs (escape_at bs)
+pub escape_at-within : (bs : List ℕ) → Within bs (escape_at bs)
 unfolding escape_at
 escape_at-within [] = omega arith
 escape_at-within (b ∷ bs) =
     either (Within (b ∷ bs)) (b == 0x75) _ _ (wider bs (b ∷ bs) (unicode_at bs) (omega arith) (unicode_at-within bs)) (named-within (named_char b) b bs)
 
-char_at-within : (bs : List ℕ) → Within bs (char_at bs)
+pub char_at-within : (bs : List ℕ) → Within bs (char_at bs)
 unfolding char_at
 char_at-within bs =
     either (Within bs) _ (escape_at (drop 1 bs)) (utf8_at bs) (wider (drop 1 bs) bs (escape_at (drop 1 bs)) (omega (arith, length-drop 1 bs)) (escape_at-within (drop 1 bs))) (utf8_at-within bs)
 
-text_within-within : (n : ℕ) (bs : List ℕ) → Within bs (text_within n bs)
+pub text_within-within : (n : ℕ) (bs : List ℕ) → Within bs (text_within n bs)
 text_within-within zero bs = omega arith
 text_within-within (suc n) bs =
     either (Within bs) _ (Ok ([], drop 1 bs)) _ (omega (arith, length-drop 1 bs))

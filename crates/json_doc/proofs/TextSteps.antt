@@ -36,7 +36,7 @@ no_bytes zero = refl
 no_bytes (suc n) = refl
 
 -- the number of steps doesn't matter where there are as many as bytes
-text_within-same : (n m : ℕ) (bs : List ℕ) → length bs ≤ n → length bs ≤ m → text_within n bs ≡ text_within m bs
+pub text_within-same : (n m : ℕ) (bs : List ℕ) → length bs ≤ n → length bs ≤ m → text_within n bs ≡ text_within m bs
 text_within-same n m [] h i = no_bytes n ∙ sym (no_bytes m)
 text_within-same zero m (b ∷ bs) h i = absurd (omega arith)
 text_within-same (suc n) zero (b ∷ bs) h i = absurd (omega arith)
