@@ -19,4 +19,5 @@ pub mod TextSteps
 pub mod TokenParts
 pub mod Utf8Bytes
 pub mod Utf8Parts
+pub mod ValueLocal
 pub mod Within

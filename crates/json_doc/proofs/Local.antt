@@ -28,10 +28,17 @@ moved_stop w (TooDeep left) = TooDeep (moved w left)
 moved_stop w (NumberTooWide left) = NumberTooWide (moved w left)
 moved_stop w OutOfMemory = OutOfMemory
 
+-- how many bytes are left where a fault was found; that a number is too wide is found behind its place
+abbrev pub found_at : Stop → ℕ
+found_at (Syntax left) = left
+found_at (TooDeep left) = left
+found_at (NumberTooWide left) = 0
+found_at OutOfMemory = 0
+
 -- reading ended where the ways begin, or before
 abbrev pub Early : {A : Type 0} → Ways → Read A → Type 0
 Early w (Ok x) = length (rest w) ≤ length x.1
-Early w (Err stop) = length (rest w) ≤ left_of stop
+Early w (Err stop) = length (rest w) ≤ found_at stop
 
 -- the other way it gives the same
 abbrev pub Moves : {A : Type 0} → Ways → Read A → Read A → Type 0
@@ -56,9 +63,15 @@ fault-moves w front = moved-error w front Syntax (λ left. refl)
 pub choice-moves : {A : Type 0} (w : Ways) (b : Bool) (x y x' y' : Read A) → (Early w x → Moves w x x') → (Early w y → Moves w y y') → Early w (if b then x else y) → Moves w (if b then x else y) (if b then x' else y')
 choice-moves w b x y x' y' p q early = elim b as (λ v. Early w (if v then x else y) → Moves w (if v then x else y) (if v then x' else y')) [ true ↦ p | false ↦ q ] early
 
-early-before : {A : Type 0} (w : Ways) (bs : List ℕ) (o : Read A) → Early w o → Within bs o → length (rest w) ≤ length bs
+found_at-le : (stop : Stop) → found_at stop ≤ left_of stop
+found_at-le (Syntax left) = omega arith
+found_at-le (TooDeep left) = omega arith
+found_at-le (NumberTooWide left) = omega arith
+found_at-le OutOfMemory = omega arith
+
+pub early-before : {A : Type 0} (w : Ways) (bs : List ℕ) (o : Read A) → Early w o → Within bs o → length (rest w) ≤ length bs
 early-before w bs (Ok x) early within = omega arith
-early-before w bs (Err stop) early within = omega arith
+early-before w bs (Err stop) early within = omega (arith, found_at-le stop)
 
 -- goes on behind what was read
 pub bind-moves : {A B : Type 0} (w : Ways) (o o' : Read A) (f : A × List ℕ → Read B) → (Early w o → Moves w o o') → ((x : A × List ℕ) → Within x.1 (f x))
@@ -73,4 +86,4 @@ bind-moves w (Err stop) o' f first within next early = ap (λ o. o >>= f) (first
 -- what begins behind the ways' first byte ends too late
 pub too_late : {A : Type 0} (w : Ways) (o o' : Read A) → Within w.others o → Early w o → Moves w o o'
 too_late w (Ok x) o' within early = absurd (omega arith)
-too_late w (Err stop) o' within early = absurd (omega arith)
+too_late w (Err stop) o' within early = absurd (omega (arith, found_at-le stop))

@@ -22,7 +22,7 @@ behind-lt c (b ∷ bs) rest e =
     elim (b == c) as (λ v. (if v then Some bs else None) ≡ Some rest → length rest < length (b ∷ bs))
     [ true ↦ (λ f. let same : bs ≡ rest = cc in subst (λ cs. length cs < length (b ∷ bs)) same (omega arith)) | false ↦ (λ f. absurd cc) ] e
 
-past-le : (c : ℕ) (bs : List ℕ) → Left bs (past c bs)
+pub past-le : (c : ℕ) (bs : List ℕ) → Left bs (past c bs)
 past-le c [] = omega arith
 past-le c (b ∷ bs) = either (Left (b ∷ bs)) (b == c) (Ok bs) (Err (Syntax (length (b ∷ bs)))) (omega arith) (omega arith)
 
@@ -30,14 +30,14 @@ left-wider : (bs cs : List ℕ) (r : Result (List ℕ) Stop) → length bs ≤ l
 left-wider bs cs (Ok rest) le h = omega arith
 left-wider bs cs (Err stop) le h = omega arith
 
-past_skipped-le : (c : ℕ) (bs : List ℕ) → Left bs (past c (skipped bs))
+pub past_skipped-le : (c : ℕ) (bs : List ℕ) → Left bs (past c (skipped bs))
 past_skipped-le c bs = left-wider (skipped bs) bs (past c (skipped bs)) (skipped-le bs) (past-le c (skipped bs))
 
-made-within : {A B : Type 0} (f : A → B) (bs : List ℕ) (o : Read A) → Within bs o → Within bs (made f o)
+pub made-within : {A B : Type 0} (f : A → B) (bs : List ℕ) (o : Read A) → Within bs o → Within bs (made f o)
 made-within f bs (Ok x) h = h
 made-within f bs (Err stop) h = h
 
-bind-left : {B : Type 0} (bs : List ℕ) (r : Result (List ℕ) Stop) (f : List ℕ → Read B) → Left bs r → ((cs : List ℕ) → Within cs (f cs)) → Within bs (r >>= f)
+pub bind-left : {B : Type 0} (bs : List ℕ) (r : Result (List ℕ) Stop) (f : List ℕ → Read B) → Left bs r → ((cs : List ℕ) → Within cs (f cs)) → Within bs (r >>= f)
 bind-left bs (Ok cs) f h g = wider cs bs (f cs) h (g cs)
 bind-left bs (Err stop) f h g = h
 
@@ -45,11 +45,11 @@ left-left : (bs : List ℕ) (r : Result (List ℕ) Stop) (f : List ℕ → Resul
 left-left bs (Ok cs) f h g = left-wider cs bs (f cs) h (g cs)
 left-left bs (Err stop) f h g = h
 
-past_word-le : (word bs : List ℕ) → Left bs (past_word word bs)
+pub past_word-le : (word bs : List ℕ) → Left bs (past_word word bs)
 past_word-le [] bs = omega arith
 past_word-le (c ∷ cs) bs = left-left bs (past c bs) (past_word cs) (past-le c bs) (past_word-le cs)
 
-named-within : (d : Doc) (word bs : List ℕ) → Within bs (named d word bs)
+pub named-within : (d : Doc) (word bs : List ℕ) → Within bs (named d word bs)
 named-within d word bs = bind-left bs (past_word word bs) (λ rest. Ok (d, rest)) (past_word-le word bs) (λ cs. omega arith)
 
 scalar_at-within : (bs : List ℕ) → Within bs (scalar_at bs)
@@ -83,28 +83,28 @@ comma-within : {A : Type 0} (bs ws rest : List ℕ) (o : Read A) → length ws �
 comma-within bs ws rest o le e h = wider (skipped rest) bs o (omega (arith, behind_skipped-le 44 ws rest e, skipped-le rest)) h
 
 mutual
-  value_in-within : {n : ℕ} {bs : List ℕ} {o : Read Doc} → Value n bs o → Within bs o
+  pub value_in-within : {n : ℕ} {bs : List ℕ} {o : Read Doc} → Value n bs o → Within bs o
   value_in-within (Value.scalar {bs = bs} e f g) = subst (Within bs) g (scalar_at-within bs)
   value_in-within (Value.array {bs = bs} {ws = ws} {o = o} e less a) = made-within doc.Items bs o (skipped-within 91 bs ws o e (array_in-within a))
   value_in-within (Value.object {bs = bs} {ws = ws} {o = o} e less a) = made-within doc.Fields bs o (skipped-within 123 bs ws o e (object_in-within a))
   value_in-within (Value.deep_array e more) = omega arith
   value_in-within (Value.deep_object e more) = omega arith
 
-  array_in-within : {n : ℕ} {bs : List ℕ} {o : Read (List Doc)} → Array n bs o → Within bs o
+  pub array_in-within : {n : ℕ} {bs : List ℕ} {o : Read (List Doc)} → Array n bs o → Within bs o
   array_in-within (Array.empty_array {bs = bs} {rest = rest} e) = behind-le 93 bs rest e
   array_in-within (Array.full_array e es) = elements_in-within es
 
-  elements_in-within : {n : ℕ} {ds : List Doc} {bs : List ℕ} {o : Read (List Doc)} → Elements n ds bs o → Within bs o
+  pub elements_in-within : {n : ℕ} {ds : List Doc} {bs : List ℕ} {o : Read (List Doc)} → Elements n ds bs o → Within bs o
   elements_in-within (Elements.bad_element v) = value_in-within v
   elements_in-within (Elements.last_element {ws = ws} {rest = rest} v e) = omega (arith, value_in-within v, behind_skipped-le 93 ws rest e)
   elements_in-within (Elements.more_elements {bs = bs} {ws = ws} {rest = rest} {o = o} v e f es) = comma-within bs ws rest o (value_in-within v) f (elements_in-within es)
   elements_in-within (Elements.open_array {ws = ws} v e f) = omega (arith, value_in-within v, skipped-le ws)
 
-  object_in-within : {n : ℕ} {bs : List ℕ} {o : Read (List (Pair Doc))} → Object n bs o → Within bs o
+  pub object_in-within : {n : ℕ} {bs : List ℕ} {o : Read (List (Pair Doc))} → Object n bs o → Within bs o
   object_in-within (Object.empty_object {bs = bs} {rest = rest} e) = behind-le 125 bs rest e
   object_in-within (Object.full_object e ms) = members_in-within ms
 
-  members_in-within : {n : ℕ} {ps : List (Pair Doc)} {bs : List ℕ} {o : Read (List (Pair Doc))} → Members n ps bs o → Within bs o
+  pub members_in-within : {n : ℕ} {ps : List (Pair Doc)} {bs : List ℕ} {o : Read (List (Pair Doc))} → Members n ps bs o → Within bs o
   members_in-within (Members.bad_key {bs = bs} e) = subst (Within bs) e (key-within bs)
   members_in-within (Members.bad_member {bs = bs} {k = k} {vs = vs} e v) = omega (arith, value_in-within v, key_at-within bs (k, vs) e)
   members_in-within (Members.last_member {bs = bs} {k = k} {vs = vs} {ws = ws} {rest = rest} e v f) =

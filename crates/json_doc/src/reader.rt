@@ -2,7 +2,7 @@ ghost use Rattle.std.specs.Prelude.{◌≡◌, ◌≤◌, ◌+◌, ◌⊎◌, le
 ghost use Rattle.json_doc.specs.declared.doc.Doc.{Doc};
 ghost use Rattle.json_doc.specs.declared.read_fault.ReadFault.{ReadFault};
 ghost use Rattle.json_doc.specs.declared.read_fault.ReadFault.TheVariants.{OutOfMemory as NoMemory};
-ghost use Rattle.json_doc.specs.Faults.{HasFault};
+ghost use Rattle.json_doc.specs.Faults.{HasFault, IsDeadEnd};
 ghost use Rattle.json_doc.specs.Reading.{Stops};
 ghost use Rattle.json_doc.specs.Grammar.{Reads};
 ghost use Rattle.json_doc.specs.Scan.{Scans};
@@ -24,6 +24,7 @@ pub fn read(alloc: Global, bytes: &[u8]) -> Result<Doc, ReadFault>
     ensures fault { IfErr result (λ e. (e ≡ NoMemory) ⊎ HasFault bytes.now e) }
     ensures refused { (f : ReadFault) → HasFault bytes.now f
         → MatchResult result (λ _. ⊥) (λ e. (e ≡ f) ⊎ (e ≡ NoMemory)) }
+    ensures dead_end { IfErr result (IsDeadEnd bytes.now) }
 {
     match read_whole(alloc, bytes) {
         Ok(doc) => Ok(doc),

@@ -5,6 +5,7 @@ use Rattle.json_doc.proofs.Once.{text_once}
 use Rattle.json_doc.proofs.Refusals.{no_fault, one_fault}
 use Rattle.json_doc.proofs.Shorter.{Scans-within}
 use Rattle.json_doc.proofs.Sound.{text_sound}
+use Rattle.json_doc.proofs.ValueLocal.{IsDeadEnd-from_fault}
 use Rattle.json_doc.proofs.reader.read.Goals as goal
 
 pub returns-in-Ok-clause-found : goal.returns-in-Ok-clause-found
@@ -55,3 +56,13 @@ pub returns-in-Err-NumberTooWide-clause-refused : goal.returns-in-Err-NumberTooW
 returns-in-Err-NumberTooWide-clause-refused c = λ f has.
     let stops = rw c.in-Err-NumberTooWide.field-0-is at c.in-Err-NumberTooWide.ensures.fault in
     inl (one_fault c.args.bytes.now (fault.NumberTooWide c.offset-in-Err-NumberTooWide.result) f (c.in-Err-NumberTooWide.left, stops, c.offset-in-Err-NumberTooWide.ensures) has)
+
+pub returns-in-Err-Syntax-clause-dead_end : goal.returns-in-Err-Syntax-clause-dead_end
+returns-in-Err-Syntax-clause-dead_end c =
+    let stops = rw c.in-Err-Syntax.field-0-is at c.in-Err-Syntax.ensures.fault in
+    IsDeadEnd-from_fault c.args.bytes.now (fault.Syntax c.offset.result) (c.in-Err-Syntax.left, stops, c.offset.ensures)
+
+pub returns-in-Err-TooDeep-clause-dead_end : goal.returns-in-Err-TooDeep-clause-dead_end
+returns-in-Err-TooDeep-clause-dead_end c =
+    let stops = rw c.in-Err-TooDeep.field-0-is at c.in-Err-TooDeep.ensures.fault in
+    IsDeadEnd-from_fault c.args.bytes.now (fault.TooDeep c.offset-in-Err-TooDeep.result) (c.in-Err-TooDeep.left, stops, c.offset-in-Err-TooDeep.ensures)
