@@ -6,6 +6,8 @@ pub mod Gathering
 pub mod Keyed
 pub mod LeastForms
 pub mod Local
+pub mod NumberLeft
+pub mod NumberLocal
 pub mod Once
 pub mod Refusals
 pub mod Shorter
