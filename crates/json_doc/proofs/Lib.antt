@@ -1,8 +1,11 @@
+pub mod CappedValues
 pub mod Decimals
+pub mod DigitLists
 pub mod Escapes
 pub mod EscapesAgain
 pub mod Keyed
 pub mod LeastForms
+pub mod NumberScans
 pub mod TextScans
 pub mod TextSteps
 pub mod Texts

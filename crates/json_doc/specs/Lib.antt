@@ -5,4 +5,5 @@ pub mod NumberParts
 pub mod NumberToken
 pub mod Reading
 pub mod TextToken
+pub mod Trimmed
 pub mod formers

@@ -10,6 +10,7 @@ mod list;
 mod memory;
 mod number_token;
 mod pairs;
+mod significand;
 mod stop;
 mod text;
 mod text_token;
