@@ -35,7 +35,7 @@ Trims-none n other = record { trimmed = other; value = sym (times-pow-none n 0 r
 trims_within : (fuel n : ℕ) → n ≤ fuel → 0 < n → (v : ℕ) × (z : ℕ) × Trims n v z
 trims_within zero n small some = absurd (omega arith)
 trims_within (suc fuel) n small some = elim (cases_eq (n % 10) 0) [
-    inl e ↦
+  | inl e ↦
       let t = trims_within fuel (n / 10) (omega arith) (omega arith) in
       let whole : n / 10 * 10 ≡ n = omega arith in
       (t.0, suc t.1, subst (λ m. Trims m t.0 (suc t.1)) whole (Trims-more (n / 10) t.0 t.1 t.2))
@@ -65,7 +65,7 @@ and-false : (b : Bool) → (b && false) ≡ false
 and-false true = refl
 and-false false = refl
 
-Trims-pos : (n v z : ℕ) → Trims n v z → 0 < n
+pub Trims-pos : (n v z : ℕ) → Trims n v z → 0 < n
 Trims-pos n v z t = subst (λ m. 0 < m) (sym t.value) (mul-pos (trimmed-pos v t.trimmed) (ten-pos z))
 
 -- the sign of a value that isn't zero
@@ -112,7 +112,7 @@ value_of_zero d x none z =
 -- one value, one decimal
 pub one_decimal : (d e : Decimal) (x : Exact) → HasValue d x → HasValue e x → d ≡ e
 one_decimal d e x h i = elim (cases_lt 0 x.digits) [
-    inl some ↦
+  | inl some ↦
       let t = trims x.digits some in
       let f = form_of d x t.0 t.1 t.2 h in
       let g = form_of e x t.0 t.1 t.2 i in

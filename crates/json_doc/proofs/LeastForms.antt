@@ -33,7 +33,7 @@ no_places c p least e = elim (cases_lt 0 p) [ inl some ↦ absurd (least some e)
 -- the decimal c / 10^p in least form is v * 10^up / 10^down, where v doesn't end in zero
 pub least_is : (c p v up down : ℕ) → v % 10 ≢ 0 → IsLeast c p → c * 10 ^ down ≡ v * 10 ^ (up + p) → (c ≡ v * 10 ^ (up - down)) × (p ≡ down - up)
 least_is c p v up down trimmed least e = elim (cases_lt down (up + p)) [
-    inl over ↦
+  | inl over ↦
       let k : ℕ = up + p - down - 1 in
       let is : c ≡ v * 10 ^ suc k = common c v (suc k) (up + p) down e (omega arith) in
       let whole : p ≡ 0 = no_places c p least (ap (λ t. t % 10) is ∙ pow-ends_zero v k) in
@@ -56,7 +56,7 @@ is_least c p v up down trimmed size places = (
 -- a number of 128 bits ends in fewer than 39 zeros
 pub few_zeros : (n v z : ℕ) → n ≡ v * 10 ^ z → 0 < v → n < 2 ^ 128 → z < 39
 few_zeros n v z e some small = elim (cases_lt z 39) [
-    inl few ↦ few
+  | inl few ↦ few
   | inr many ↦
       let big : 10 ^ 39 ≤ 10 ^ z = pow-le-pow_right (let ten : 0 < 10 = omega arith in ten) many in
       let whole : 1 * 10 ^ z ≤ v * 10 ^ z = mul-le-mul_right (10 ^ z) some in
@@ -87,3 +87,7 @@ small_power k few =
 
 pub trimmed-pos : (v : ℕ) → v % 10 ≢ 0 → 0 < v
 trimmed-pos v other = elim (cases_eq v 0) [ inl e ↦ absurd (other (ap (λ t. t % 10) e)) | inr some ↦ omega arith ]
+
+-- one place more
+pub times-pow-one : (v k : ℕ) → v * 10 ^ (k + 1) ≡ v * 10 ^ k * 10
+times-pow-one v k = let turned : k + 1 ≡ 1 + k = omega arith in ap (λ t. v * 10 ^ t) turned ∙ times-pow-add v 1 k

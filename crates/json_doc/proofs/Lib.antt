@@ -1,5 +1,7 @@
+pub mod CappedValues
 pub mod Complete
 pub mod Decimals
+pub mod DigitLists
 pub mod Escapes
 pub mod EscapesAgain
 pub mod Gathering
@@ -8,14 +10,15 @@ pub mod LeastForms
 pub mod Local
 pub mod NumberLeft
 pub mod NumberLocal
+pub mod NumberScans
 pub mod Once
 pub mod Refusals
 pub mod Shorter
 pub mod Sound
 pub mod Stopping
 pub mod TextLeft
-pub mod Texts
 pub mod TextLocal
+pub mod Texts
 pub mod TextScans
 pub mod TextSteps
 pub mod TokenParts

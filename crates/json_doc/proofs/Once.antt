@@ -1,7 +1,8 @@
 -- Reading gives one outcome.
 use Rattle.std.proofs.Common.{◌≡◌, ◌==◌, ℕ, ◌+◌, ◌<◌, ◌≤◌, true, false, if◌then◌else◌, List, [], ◌∷◌, ◌++◌, length, Option, Some, None, Result, Ok, Err, refl, sym, ap, subst, ◌∙◌, arith}
-use Rattle.std.specs.Prelude.{MatchOption}
-use Rattle.std.proofs.lemmas.Bool.{eqb-true, eq-eqb}
+use Rattle.std.specs.Prelude.{MatchOption, MatchBool}
+use Rattle.std.proofs.lemmas.Bool.{eqb-true, eq-eqb, false≢true}
+use Rattle.json_doc.specs.declared.decimal.Decimal.{Decimal}
 use Rattle.json_doc.specs.declared.doc.Doc as doc
 use Rattle.json_doc.specs.declared.doc.Doc.{Doc}
 use Rattle.json_doc.specs.declared.pairs.Pair.{Pair}
@@ -9,7 +10,11 @@ use Rattle.json_doc.specs.declared.stop.Stop.{Stop}
 use Rattle.json_doc.specs.declared.stop.Stop.TheVariants.{Syntax, TooDeep}
 use Rattle.json_doc.specs.Keys.{put}
 use Rattle.json_doc.specs.Reading.{Read, ◌>>=◌}
-use Rattle.json_doc.specs.Scan.{made, skipped, behind, scalar_at, key_at, whole, Value, Array, Object, Elements, Members, Scans}
+use Rattle.json_doc.specs.Exact.{HasValue}
+use Rattle.json_doc.specs.NumberToken.{Number, number_at, value_of, ReadsNumber}
+use Rattle.json_doc.proofs.Decimals.{one_decimal}
+use Rattle.json_doc.proofs.TokenParts.{ok_same}
+use Rattle.json_doc.specs.Scan.{made, skipped, behind, is_number_start, begins_number, scalar_at, key_at, whole, Value, Array, Object, Elements, Members, Scans}
 
 behind-head : (c b : ℕ) (bs ws : List ℕ) → behind c (b ∷ bs) ≡ Some ws → b ≡ c
 behind-head c b bs ws e =
@@ -34,16 +39,49 @@ other-behind c d (b ∷ bs) ws ne e =
 no_bracket : (bs ws : List ℕ) → behind 123 bs ≡ Some ws → behind 91 bs ≡ None
 no_bracket bs ws e = other-behind 123 91 bs ws (λ h. absurd (omega arith)) e
 
+-- a number begins with no such byte
+pub no_mark : (c : ℕ) (bs : List ℕ) → is_number_start c ≡ false → begins_number bs ≡ true → behind c bs ≡ None
+no_mark c [] other starts = refl
+no_mark c (b ∷ bs) other starts =
+    elim (b == c) as (λ v. b == c ≡ v → (if v then Some bs else None) ≡ None)
+    [ true ↦ (λ f. absurd (false≢true (sym other ∙ subst (λ x. is_number_start x ≡ true) (eqb-true b c f) starts))) | false ↦ (λ f. refl) ] refl
+
+no_other : (r : Read Number) (x : Number × List ℕ) (stop : Stop) → r ≡ Ok x → r ≡ Err stop → ⊥
+no_other r x stop e f = cc
+
+same_parts : (r : Read Number) (x y : Number × List ℕ) → r ≡ Ok x → r ≡ Ok y → x ≡ y
+same_parts r x y e f = ok_same x y (sym e ∙ f)
+
+number_once : (bs : List ℕ) (o p : Read Decimal) → ReadsNumber bs o → ReadsNumber bs p → o ≡ p
+number_once bs o p (ReadsNumber.read {rest = us} {n = n} {d = d} e v) (ReadsNumber.read {rest = vs} {n = m} {d = c} f w) =
+    let same = same_parts (number_at bs) (n, us) (m, vs) e f in
+    let value = subst (λ x. HasValue c (value_of x)) (sym (ap (λ x. x.0) same)) w in
+    ap (λ x. Ok (x, us)) (one_decimal d c (value_of n) v value) ∙ ap (λ x. Ok (c, x)) (ap (λ x. x.1) same)
+number_once bs o p (ReadsNumber.read {rest = us} {n = n} {d = d} e v) (ReadsNumber.too_wide {rest = vs} {n = m} f none) =
+    absurd (none d (subst (λ x. HasValue d (value_of x)) (ap (λ x. x.0) (same_parts (number_at bs) (n, us) (m, vs) e f)) v))
+number_once bs o p (ReadsNumber.read {rest = us} {n = n} e v) (ReadsNumber.broken {stop = stop} f) = absurd (no_other (number_at bs) (n, us) stop e f)
+number_once bs o p (ReadsNumber.too_wide {rest = us} {n = n} e none) (ReadsNumber.read {rest = vs} {n = m} {d = d} f w) =
+    absurd (none d (subst (λ x. HasValue d (value_of x)) (ap (λ x. x.0) (same_parts (number_at bs) (m, vs) (n, us) f e)) w))
+number_once bs o p (ReadsNumber.too_wide e none) (ReadsNumber.too_wide f other) = refl
+number_once bs o p (ReadsNumber.too_wide {rest = us} {n = n} e none) (ReadsNumber.broken {stop = stop} f) = absurd (no_other (number_at bs) (n, us) stop e f)
+number_once bs o p (ReadsNumber.broken {stop = stop} e) (ReadsNumber.read {rest = us} {n = n} f w) = absurd (no_other (number_at bs) (n, us) stop f e)
+number_once bs o p (ReadsNumber.broken {stop = stop} e) (ReadsNumber.too_wide {rest = us} {n = n} f none) = absurd (no_other (number_at bs) (n, us) stop f e)
+number_once bs o p (ReadsNumber.broken {stop = s} e) (ReadsNumber.broken {stop = t} f) = same_stop (number_at bs) s t e f
+  where
+    same_stop : (r : Read Number) (s t : Stop) → r ≡ Err s → r ≡ Err t → ◌≡◌ {A = Read Decimal} (Err s) (Err t)
+    same_stop r s t e f = cc
+
 -- What a part gives, told by what its bytes begin with.
 
 abbrev ValueStep : ℕ → List ℕ → Read Doc → Type 0
 ValueStep n bs o = MatchOption (behind 91 bs)
-    (MatchOption (behind 123 bs) (o ≡ scalar_at bs)
+    (MatchOption (behind 123 bs) (MatchBool (begins_number bs) ((p : Read Decimal) × ReadsNumber bs p × (o ≡ made doc.Number p)) (o ≡ scalar_at bs))
     (λ ws. (n < 100 → (p : Read (List (Pair Doc))) × Object (n + 1) (skipped ws) p × (o ≡ made doc.Fields p)) × (100 ≤ n → o ≡ Err (TooDeep (length bs)))))
     (λ ws. (n < 100 → (p : Read (List Doc)) × Array (n + 1) (skipped ws) p × (o ≡ made doc.Items p)) × (100 ≤ n → o ≡ Err (TooDeep (length bs))))
 
 value_step : {n : ℕ} {bs : List ℕ} {o : Read Doc} → Value n bs o → ValueStep n bs o
-value_step (Value.scalar e f g) = rw (e, f) (sym g)
+value_step (Value.scalar e f apart g) = rw (e, f, apart) (sym g)
+value_step (Value.number {bs = bs} {o = o} starts r) = rw (no_mark 91 bs refl starts, no_mark 123 bs refl starts, starts) (o, r, refl)
 value_step (Value.array {o = o} e less a) = rw e ((λ _. (o, a, refl)), (λ more. absurd (omega arith)))
 value_step (Value.object {bs = bs} {ws = ws} {o = o} e less a) = rw (no_bracket bs ws e, e) ((λ _. (o, a, refl)), (λ more. absurd (omega arith)))
 value_step (Value.deep_array e more) = rw e ((λ less. absurd (omega arith)), (λ _. refl))
@@ -97,7 +135,10 @@ members_step (Members.open_object {ws = ws} {d = d} e v f g) = rw e (Ok (d, ws),
 
 mutual
   value_again : {n : ℕ} {bs : List ℕ} {o : Read Doc} → Value n bs o → (p : Read Doc) → Value n bs p → p ≡ o
-  value_again (Value.scalar e f g) p v = (rw (e, f) at (value_step v)) ∙ g
+  value_again (Value.scalar e f apart g) p v = (rw (e, f, apart) at (value_step v)) ∙ g
+  value_again (Value.number {bs = bs} {o = o} starts r) p v =
+      let s = rw (no_mark 91 bs refl starts, no_mark 123 bs refl starts, starts) at (value_step v) in
+      s.2 ∙ ap (made doc.Number) (number_once bs s.0 o s.1 r)
   value_again (Value.array {n = n} {bs = bs} {ws = ws} e less a) p v =
       let s = rw e at (value_step v) in let r = s.0 less in
       r.2 ∙ ap (made doc.Items) (array_again a r.0 r.1)

@@ -9,6 +9,7 @@ use Rattle.json_doc.specs.declared.stop.Stop.TheVariants.{Syntax}
 use Rattle.json_doc.specs.Reading.{Read, ◌>>=◌}
 use Rattle.json_doc.specs.TextToken.{text_at}
 use Rattle.json_doc.proofs.Within.{Within, Left, left_of, either, wider, bind-within}
+use Rattle.json_doc.proofs.NumberLeft.{ReadsNumber-within}
 use Rattle.json_doc.proofs.TextLeft.{text_at-within}
 use Rattle.json_doc.specs.Scan.{made, is_blank, skipped, behind, past, past_word, named, scalar_at, key_at, ended, Value, Array, Object, Elements, Members, Scans}
 
@@ -84,7 +85,8 @@ comma-within bs ws rest o le e h = wider (skipped rest) bs o (omega (arith, behi
 
 mutual
   pub value_in-within : {n : ℕ} {bs : List ℕ} {o : Read Doc} → Value n bs o → Within bs o
-  value_in-within (Value.scalar {bs = bs} e f g) = subst (Within bs) g (scalar_at-within bs)
+  value_in-within (Value.number {bs = bs} {o = o} starts r) = made-within doc.Number bs o (ReadsNumber-within bs o r)
+  value_in-within (Value.scalar {bs = bs} e f apart g) = subst (Within bs) g (scalar_at-within bs)
   value_in-within (Value.array {bs = bs} {ws = ws} {o = o} e less a) = made-within doc.Items bs o (skipped-within 91 bs ws o e (array_in-within a))
   value_in-within (Value.object {bs = bs} {ws = ws} {o = o} e less a) = made-within doc.Fields bs o (skipped-within 123 bs ws o e (object_in-within a))
   value_in-within (Value.deep_array e more) = omega arith

@@ -4,6 +4,7 @@ use Rattle.std.proofs.lemmas.Bool.{eqb-true}
 use Rattle.std.proofs.lemmas.Result.{IfOk-weaker, IfOk-at_ok}
 use Rattle.std.specs.Prelude.{codes, IfOk}
 use Rattle.std.specs.List.{AllByRecursion}
+use Rattle.json_doc.specs.declared.decimal.Decimal.{Decimal}
 use Rattle.json_doc.specs.declared.doc.Doc as doc
 use Rattle.json_doc.specs.declared.doc.Doc.{Doc}
 use Rattle.json_doc.specs.declared.pairs.Pair.{Pair}
@@ -14,6 +15,8 @@ use Rattle.json_doc.specs.Grammar.{Ws, Structural, String, put_all, Reads}
 use Rattle.json_doc.specs.Grammar as g
 use Rattle.json_doc.specs.Reading.{Read, ◌>>=◌}
 use Rattle.json_doc.specs.Scan.{made, is_blank, skipped, behind, past, past_word, named, scalar_at, key_at, ended, Value, Array, Object, Elements, Members, Scans}
+use Rattle.json_doc.specs.NumberToken.{ReadsNumber}
+use Rattle.json_doc.proofs.NumberScans.{number_at_ok}
 use Rattle.json_doc.specs.TextToken.{text_at}
 use Rattle.json_doc.proofs.TextScans.{text_at_ok}
 use Rattle.json_doc.proofs.Once.{behind-is}
@@ -107,6 +110,11 @@ scalar-is n (b ∷ bs) =
     (λ _. either P (b == 110) _ _ (named-is n 110 doc.Null (codes "ull") bs b (λ rest. g.Value.null_name refl))
     (λ _. either P (b == 116) _ _ (named-is n 116 (doc.Flag true) (codes "rue") bs b (λ rest. g.Value.true_name refl)) (λ _. tt))))
 
+number-is : (n : ℕ) (bs : List ℕ) (o : Read Decimal) → ReadsNumber bs o → IfOk o (λ x. g.Value n bs (doc.Number x.0) x.1)
+number-is n bs o (ReadsNumber.read {rest = rest} {n = parts} e value) = let t = number_at_ok bs (parts, rest) e in g.Value.number t.1 value t.2
+number-is n bs o (ReadsNumber.too_wide e none) = tt
+number-is n bs o (ReadsNumber.broken e) = tt
+
 -- behind an opening bracket and blanks
 abbrev Inside : ℕ → List ℕ → List Doc → List ℕ → Type 0
 Inside n bs ds rest = ((ds ≡ []) × Structural 93 bs rest) ⊎ ((ws : List ℕ) × g.Values n bs ds ws × Structural 93 ws rest)
@@ -126,7 +134,8 @@ object-is n bs vs ps rest less begins inside =
 
 mutual
   value_sound : {n : ℕ} {bs : List ℕ} {o : Read Doc} → Value n bs o → IfOk o (λ x. g.Value n bs x.0 x.1)
-  value_sound (Value.scalar {n = n} {bs = bs} e f h) = subst (λ o. IfOk o (λ x. g.Value n bs x.0 x.1)) h (scalar-is n bs)
+  value_sound (Value.number {n = n} {bs = bs} {o = o} starts r) = IfOk-made doc.Number o (λ x. g.Value n bs x.0 x.1) (number-is n bs o r)
+  value_sound (Value.scalar {n = n} {bs = bs} e f apart h) = subst (λ o. IfOk o (λ x. g.Value n bs x.0 x.1)) h (scalar-is n bs)
   value_sound (Value.array {n = n} {bs = bs} {ws = ws} {o = o} e less a) =
       IfOk-made doc.Items o (λ x. g.Value n bs x.0 x.1) (IfOk-weaker o (λ x. Inside (n + 1) (skipped ws) x.0 x.1) (λ x. g.Value n bs (doc.Items x.0) x.1)
       (λ x h. array-is n bs (skipped ws) x.0 x.1 less (first_mark 91 bs ws e) h) (array_sound a))

@@ -77,11 +77,11 @@ hex_in_ok low high (b ∷ bs) x e =
 
 -- Faults, but for want of memory.
 
-pub Stops-weaker : (P Q : Stop → Type 0) (stop : Stop) → ((s : Stop) → P s → Q s) → Stops P stop → Stops Q stop
-Stops-weaker P Q (Syntax left) go h = go (Syntax left) h
-Stops-weaker P Q (TooDeep left) go h = go (TooDeep left) h
-Stops-weaker P Q (NumberTooWide left) go h = go (NumberTooWide left) h
-Stops-weaker P Q OutOfMemory go h = tt
+pub Stops-from : (P : Stop → Type 0) (stop : Stop) → P stop → Stops P stop
+Stops-from P (Syntax left) h = h
+Stops-from P (TooDeep left) h = h
+Stops-from P (NumberTooWide left) h = h
+Stops-from P OutOfMemory h = tt
 
 -- what can be read stops for want of memory alone
 pub Stops-read : {A : Type 0} (read : Result A Stop) (x : A) (stop : Stop) → read ≡ Ok x → Stops (λ s. read ≡ Err s) stop → stop ≡ OutOfMemory

@@ -8,6 +8,7 @@ use Rattle.json_doc.specs.Faults.{HasFault, BeginsNoDocument, IsDeadEnd}
 use Rattle.json_doc.proofs.Once.{text_once}
 use Rattle.json_doc.proofs.Complete.{text_complete}
 use Rattle.std.specs.Prelude.{codes}
+use Rattle.json_doc.specs.declared.decimal.Decimal.{Decimal}
 use Rattle.json_doc.specs.declared.doc.Doc as doc
 use Rattle.json_doc.specs.declared.doc.Doc.{Doc}
 use Rattle.json_doc.specs.declared.pairs.Pair.{Pair}
@@ -15,8 +16,10 @@ use Rattle.json_doc.specs.declared.stop.Stop.{Stop}
 use Rattle.json_doc.specs.declared.stop.Stop.TheVariants.{Syntax, TooDeep, NumberTooWide, OutOfMemory}
 use Rattle.json_doc.specs.Keys.{put}
 use Rattle.json_doc.specs.Reading.{Read, ◌>>=◌}
+use Rattle.json_doc.specs.NumberToken.{number_at, ReadsNumber}
+use Rattle.json_doc.proofs.NumberLocal.{number_at-local}
 use Rattle.json_doc.specs.TextToken.{text_at}
-use Rattle.json_doc.specs.Scan.{made, is_blank, skipped, behind, past, past_word, named, scalar_at, key_at, ended, whole, Value, Array, Object, Elements, Members, Scans}
+use Rattle.json_doc.specs.Scan.{made, is_blank, skipped, behind, past, past_word, named, begins_number, scalar_at, key_at, ended, whole, Value, Array, Object, Elements, Members, Scans}
 use Rattle.json_doc.proofs.Within.{Within, Left, left_of, either, wider, bind-within}
 use Rattle.json_doc.proofs.Shorter.{skipped-le, behind-lt, past-le, past_word-le, named-within, made-within, past_skipped-le, bind-left, value_in-within, array_in-within, elements_in-within, object_in-within, members_in-within, key_at-within}
 use Rattle.json_doc.proofs.TextLeft.{text_at-within}
@@ -187,6 +190,22 @@ twins_local f local w bs cs (front, e, g) early =
 abbrev Again : {A : Type 0} → (List ℕ → Read A → Type 0) → List ℕ → Read A → Type 0
 Again {A} R bs o = (w : Ways) (cs : List ℕ) → Twins w bs cs → Early w o → (p : Read A) × R cs p × Moves w o p
 
+first_number : (w : Ways) (front : List ℕ) → begins_number (front ++ more w) ≡ begins_number (front ++ rest w)
+first_number w [] = refl
+first_number w (b ∷ bs) = refl
+
+twins_number : (w : Ways) (bs cs : List ℕ) → Twins w bs cs → begins_number cs ≡ begins_number bs
+twins_number w bs cs (front, e, f) = ap begins_number f ∙ first_number w front ∙ ap begins_number (sym e)
+
+number_local : (bs : List ℕ) (o : Read Decimal) → ReadsNumber bs o → Again ReadsNumber bs o
+number_local bs o (ReadsNumber.read {rest = us} {n = n} {d = d} e value) w cs t early =
+    let m = subst (λ p. Moves w p (number_at cs)) e (twins_local number_at number_at-local w bs cs t (subst (Early w) (sym e) early)) in
+    (Ok (d, m.0 ++ more w), ReadsNumber.read m.2 value, (m.0, m.1, refl))
+number_local bs o (ReadsNumber.too_wide e none) w cs t early = absurd (omega arith)
+number_local bs o (ReadsNumber.broken {stop = stop} e) w cs t early =
+    let m = subst (λ p. Moves w p (number_at cs)) e (twins_local number_at number_at-local w bs cs t (subst (Early w) (sym e) early)) in
+    (Err (moved_stop w stop), ReadsNumber.broken m, refl)
+
 -- of a value, what is behind it
 value_end : (n : ℕ) (w : Ways) (cs ws : List ℕ) (d : Doc) → (p : Read Doc) × Value n cs p × Moves w (Ok (d, ws)) p → (vs : List ℕ) × Value n cs (Ok (d, vs)) × Twins w ws vs
 value_end n w cs ws d (p, v, (front, e, f)) = (front ++ more w, subst (Value n cs) f v, (front, e, refl))
@@ -199,8 +218,11 @@ key_end w bs cs k vs t e early =
 
 mutual
   value_local : {n : ℕ} {bs : List ℕ} {o : Read Doc} → Value n bs o → Again (Value n) bs o
-  value_local (Value.scalar {n = n} {bs = bs} {o = o} e f g) w cs t early =
-      (scalar_at cs, Value.scalar (twins_not w 91 bs cs t e) (twins_not w 123 bs cs t f) refl,
+  value_local (Value.number {bs = bs} {o = o} starts r) w cs t early =
+      let q = number_local bs o r w cs t (made-early w doc.Number o early) in
+      (made doc.Number q.0, Value.number (twins_number w bs cs t ∙ starts) q.1, made-moves w doc.Number o q.0 q.2)
+  value_local (Value.scalar {n = n} {bs = bs} {o = o} e f apart g) w cs t early =
+      (scalar_at cs, Value.scalar (twins_not w 91 bs cs t e) (twins_not w 123 bs cs t f) (twins_number w bs cs t ∙ apart) refl,
       subst (λ q. Moves w q (scalar_at cs)) g (twins_local scalar_at scalar_at-local w bs cs t (subst (Early w) (sym g) early)))
   value_local (Value.array {n = n} {bs = bs} {ws = ws} {o = o} e less a) w cs t early =
       let inner = made-early w doc.Items o early in

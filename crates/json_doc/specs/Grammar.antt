@@ -3,11 +3,14 @@
 -- one another: `n` counts those that are open.
 use Rattle.std.specs.Prelude.{◌≡◌, ℕ, ◌+◌, ◌<◌, IsTrue, false, true, codes, List, [], ◌∷◌, ◌++◌}
 use Rattle.std.specs.List.{AllByRecursion}
+use Rattle.json_doc.specs.declared.decimal.Decimal.{Decimal}
 use Rattle.json_doc.specs.declared.doc.Doc as doc
 use Rattle.json_doc.specs.declared.doc.Doc.{Doc}
 use Rattle.json_doc.specs.declared.pairs.Pair.{Pair}
 use Rattle.json_doc.specs.Keys.{put}
 use Rattle.json_doc.specs.Scan.{is_blank}
+use Rattle.json_doc.specs.Exact.{HasValue}
+use Rattle.json_doc.specs.NumberToken.{Number, SpellsNumber, value_of}
 use Rattle.json_doc.specs.TextToken.{BeginsWithText}
 
 -- ws = *( %x20 / %x09 / %x0A / %x0D )
@@ -33,6 +36,8 @@ mutual
     false_name : {n : ℕ} {bs rest : List ℕ} → bs ≡ codes "false" ++ rest → Value n bs (doc.Flag false) rest
     null_name : {n : ℕ} {bs rest : List ℕ} → bs ≡ codes "null" ++ rest → Value n bs doc.Null rest
     true_name : {n : ℕ} {bs rest : List ℕ} → bs ≡ codes "true" ++ rest → Value n bs (doc.Flag true) rest
+    -- number, whose exact value is a decimal
+    number : {n : ℕ} {bs spelled rest : List ℕ} {parts : Number} {m : Decimal} → SpellsNumber parts spelled → HasValue m (value_of parts) → bs ≡ spelled ++ rest → Value n bs (doc.Number m) rest
     string : {n : ℕ} {bs t rest : List ℕ} → String bs t rest → Value n bs (doc.Str t) rest
     -- array = begin-array [ value *( value-separator value ) ] end-array
     empty_array : {n : ℕ} {bs ws rest : List ℕ} → n < 100 → Structural 91 bs ws → Structural 93 ws rest → Value n bs (doc.Items []) rest

@@ -10,3 +10,4 @@ pub mod NumberToken
 pub mod Reading
 pub mod Scan
 pub mod TextToken
+pub mod Trimmed

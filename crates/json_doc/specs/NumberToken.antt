@@ -31,6 +31,12 @@ lowered e = if e.is_negative then digits_value 10 e.digits else 0
 abbrev pub value_of : Number → Exact
 value_of n = exact n.is_negative (digits_value 10 (n.int ++ n.frac)) (raised n.exp) (length n.frac + lowered n.exp)
 
+-- each of them is made of digits
+pub record HasDigits (n : Number) : Type 0 where
+  pub int : AllDigits 10 n.int
+  pub frac : AllDigits 10 n.frac
+  pub exp : AllDigits 10 n.exp.digits
+
 -- How they are spelled.
 
 -- one digit or more

@@ -5,7 +5,7 @@ ghost use Rattle.json_doc.specs.Exact.{exact, HasValue, HasNoDecimal, IsForm, Is
 use crate::Decimal;
 
 // The magnitudes of decimals are below this: 36 digits.
-const LIMIT: u128 = 1_000_000_000_000_000_000_000_000_000_000_000_000;
+pub const LIMIT: u128 = 1_000_000_000_000_000_000_000_000_000_000_000_000;
 
 // The digits without the zeros at their end, and how many zeros there were.
 fn trimmed(digits: u128) -> (u128, u128)
@@ -65,7 +65,12 @@ fn least_form(is_negative: bool, digits: u128, up: u128, down: u128) -> Option<D
 
 /// The decimal `digits * 10^up / 10^down`, perhaps negative: none where it takes more than 36 digits
 /// or 30 places.
-pub(crate) fn decimal_of_parts(is_negative: bool, digits: u128, up: u128, down: u128) -> Option<Decimal>
+pub(crate) fn decimal_of_parts(
+    is_negative: bool,
+    digits: u128,
+    up: u128,
+    down: u128,
+) -> Option<Decimal>
     requires { up < 2 ^ 127 }
     ensures some { IfSome result (λ d. HasValue d (exact is_negative digits up down)) }
     ensures none { IfNone result (HasNoDecimal (exact is_negative digits up down)) }

@@ -15,6 +15,7 @@ mod read_fields;
 mod read_marks;
 mod read_value;
 mod reader;
+mod significand;
 mod stop;
 mod text;
 mod text_token;

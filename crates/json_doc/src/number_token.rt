@@ -1,15 +1,17 @@
 //! Numbers of JSON (RFC 8259, section 6).
-ghost use Rattle.std.specs.Prelude.{◌≡◌, ℕ, ◌+◌, ◌*◌, ◌^◌, ◌<◌, ◌≤◌, ◌⊎◌, false, List, length, IfOk, IfErr, Ok, Err};
+ghost use Rattle.std.specs.Prelude.{◌≡◌, ◌+◌, ◌*◌, ◌^◌, ◌<◌, ◌≤◌, length, IfOk, IfErr, IfSome, IfNone};
 ghost use Rattle.std.specs.Char.{is_ascii_digit};
 ghost use Rattle.std.specs.List.{prefix_len};
-ghost use Rattle.std.specs.Str.Parse.{digits_value, digits_value_after, AllDigits};
+ghost use Rattle.std.specs.Str.Parse.{digits_value, AllDigits};
 ghost use Rattle.json_doc.specs.Reading.{Gives};
-ghost use Rattle.json_doc.specs.NumberToken.{digits_at, int_at, frac_at, sign_at, exp_at, minus_at, number_at, is_exp_mark};
-
+ghost use Rattle.json_doc.specs.NumberToken.{digits_at, int_at, frac_at, sign_at, exp_at, minus_at, number_at, value_of, raised, lowered, HasDigits, ReadsNumber};
+ghost use Rattle.json_doc.specs.Exact.{HasValue, HasNoDecimal};
+ghost use Rattle.json_doc.specs.Trimmed.{IsCapped};
 ghost use Rattle.json_doc.specs.NumberParts.{exponent_of, number_of};
 
 use crate::Decimal;
 use crate::decimal_parts::decimal_of_parts;
+use crate::significand::Significand;
 use crate::stop::Stop;
 
 // How many digits stand in front.
@@ -144,4 +146,81 @@ fn number_at(bytes: &[u8]) -> Result<(NumberParts<'_>, &[u8]), Stop>
         },
         rest,
     ))
+}
+
+// An exponent from here on moves any digits that fit memory too far.
+const FAR: u128 = 100_000_000_000_000_000_000;
+
+// A number with one digit more, unless it is far already.
+fn with_digit(number: u128, digit: u8) -> u128
+    requires digit { digit < 10 }
+    requires room { number < 2 ^ 70 }
+    ensures near { number < 10 ^ 20 → result ≡ number * 10 + digit }
+    ensures far { 10 ^ 20 ≤ number → result ≡ number }
+    ensures small { result < 2 ^ 70 }
+{
+    if FAR <= number {
+        number
+    } else {
+        number * 10 + u128::from(digit)
+    }
+}
+
+// The value of an exponent's digits, or a far one for a far one.
+fn capped_value(digits: &[u8]) -> u128
+    requires { AllDigits 10 digits.now }
+    ensures value { IsCapped result (digits_value 10 digits.now) }
+    ensures small { result < 2 ^ 70 }
+{
+    let mut value = 0;
+    for b in digits {
+        value = with_digit(value, *b - b'0');
+    }
+    value
+}
+
+// The powers of ten by which an exponent raises and lowers a number.
+fn powers(exponent: ExponentParts<'_>) -> (u128, u128)
+    requires { AllDigits 10 (exponent_of exponent).digits }
+    ensures up { IsCapped result.0 (raised (exponent_of exponent.entry)) }
+    ensures down { IsCapped result.1 (lowered (exponent_of exponent.entry)) }
+    ensures small { (result.0 < 2 ^ 70) × (result.1 < 2 ^ 70) }
+{
+    let power = capped_value(exponent.digits);
+    if exponent.is_negative {
+        (0, power)
+    } else {
+        (power, 0)
+    }
+}
+
+// The decimal with the value of a number.
+fn decimal_of(number: &NumberParts<'_>) -> Option<Decimal>
+    requires { HasDigits (number_of number.now) }
+    ensures some { IfSome result (λ d. HasValue d (value_of (number_of number.now))) }
+    ensures none { IfNone result (HasNoDecimal (value_of (number_of number.now))) }
+{
+    let int = Significand::zero().with_digits(number.int)?;
+    let digits = int.with_digits(number.frac)?;
+    let (up, down) = powers(number.exp);
+    let places = number.frac.len() as u128;
+    decimal_of_parts(
+        number.is_negative,
+        digits.front,
+        digits.zeros + up,
+        places + down,
+    )
+}
+
+/// Reads a number, and gives its decimal and what is behind it.
+pub(crate) fn read_number(bytes: &[u8]) -> Result<(Decimal, &[u8]), Stop>
+    ensures read { IfOk result (λ x. ReadsNumber bytes.now (Ok (x.0, x.1.now))) }
+    ensures fault { IfErr result (λ stop. ReadsNumber bytes.now (Err stop)) }
+    ensures shorter { IfOk result (λ x. length x.1.now < length bytes.now) }
+{
+    let (number, rest) = number_at(bytes)?;
+    match decimal_of(&number) {
+        Some(decimal) => Ok((decimal, rest)),
+        None => Err(Stop::NumberTooWide(bytes.len())),
+    }
 }

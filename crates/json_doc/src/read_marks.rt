@@ -1,12 +1,22 @@
 ghost use Rattle.std.specs.Prelude.{◌≡◌, ◌≤◌, ◌<◌, length, codes, IsTrue, IfOk, IfErr, Ok, Err};
 ghost use Rattle.std.specs.Option.{option_copied};
 ghost use Rattle.json_doc.specs.Reading.{Gives, Stops};
-ghost use Rattle.json_doc.specs.Scan.{is_blank, skipped, behind, past, past_word, key_at};
+ghost use Rattle.json_doc.specs.Scan.{begins_number, is_blank, skipped, behind, past, past_word, key_at};
 
 use crate::stop::Stop;
 use crate::text_token::read_text;
 use crate::Text;
 use std::alloc::Global;
+
+/// Whether a number stands in front.
+pub fn begins_number(bytes: &[u8]) -> bool
+    ensures { result ≡ begins_number bytes.now }
+{
+    match bytes.first() {
+        Some(b) => *b == b'-' || b.is_ascii_digit(),
+        None => false,
+    }
+}
 
 fn is_blank(b: u8) -> bool
     ensures { result ≡ is_blank b }
@@ -64,7 +74,8 @@ pub fn pass_word<'a>(bytes: &'a [u8], word: &[u8]) -> Result<&'a [u8], Stop>
 
 /// A key, and the bytes behind its colon and blanks.
 pub fn read_key(alloc: Global, bytes: &[u8]) -> Result<(Text, &[u8]), Stop>
-    ensures { Gives (λ x. (x.0, x.1.now)) result (key_at bytes.now) }
+    ensures read { IfOk result (λ x. key_at bytes.now ≡ Ok (x.0, x.1.now)) }
+    ensures fault { IfErr result (Stops (λ stop. key_at bytes.now ≡ Err stop)) }
 {
     let rest = pass(bytes, b'"')?;
     let (key, rest) = read_text(alloc, rest)?;

@@ -1,9 +1,10 @@
 ghost use Rattle.std.specs.Prelude.{◌≡◌, IfOk, IfErr, Ok, Err};
-ghost use Rattle.json_doc.specs.Reading.{Gives, Stops};
+ghost use Rattle.json_doc.specs.Reading.{Stops};
 ghost use Rattle.json_doc.specs.Scan.{Value, Array, Object, scalar_at};
 
+use crate::number_token::read_number;
 use crate::read_fields::{Gathered, into_pairs, with_field};
-use crate::read_marks::{pass_word, read_key, skip_blanks, strip};
+use crate::read_marks::{begins_number, pass_word, read_key, skip_blanks, strip};
 use crate::stop::Stop;
 use crate::text_token::read_text;
 use crate::{Doc, List, Pairs};
@@ -31,6 +32,10 @@ pub fn read_value(alloc: Global, depth: usize, bytes: &[u8]) -> Result<(Doc, &[u
         }
         let (fields, rest) = read_object(alloc, depth + 1, skip_blanks(rest))?;
         return Ok((Doc::Fields(fields), rest));
+    }
+    if begins_number(bytes) {
+        let (number, rest) = read_number(bytes)?;
+        return Ok((Doc::Number(number), rest));
     }
     read_scalar(alloc, bytes)
 }
@@ -86,9 +91,10 @@ fn read_object(alloc: Global, depth: usize, bytes: &[u8]) -> Result<(Pairs<Doc>,
     }
 }
 
-/// The value without brackets that stands in front, and the bytes behind it.
+/// The text or the word that stands in front, and the bytes behind it.
 fn read_scalar(alloc: Global, bytes: &[u8]) -> Result<(Doc, &[u8]), Stop>
-    ensures { Gives (λ x. (x.0, x.1.now)) result (scalar_at bytes.now) }
+    ensures read { IfOk result (λ x. scalar_at bytes.now ≡ Ok (x.0, x.1.now)) }
+    ensures fault { IfErr result (Stops (λ stop. scalar_at bytes.now ≡ Err stop)) }
 {
     if let Some(rest) = strip(bytes, b'"') {
         let (text, rest) = read_text(alloc, rest)?;

@@ -2,7 +2,7 @@ use Rattle.std.proofs.Common.{◌≡◌, ℕ, ◌++◌, List, Ok, Err, IfErr, Ma
 use Rattle.std.proofs.lemmas.Result.{err_from_is_err_and}
 use Rattle.json_doc.specs.Reading.{Stops}
 use Rattle.json_doc.specs.TextToken.{text_at, with_front, BeginsWithText}
-use Rattle.json_doc.proofs.TokenParts.{ok_same, Stops-weaker, Stops-read}
+use Rattle.json_doc.proofs.TokenParts.{ok_same, Stops-from, Stops-read}
 use Rattle.json_doc.proofs.TextScans.{text_at_ok, text_at-spelled}
 use Rattle.json_doc.proofs.TextSteps.{text_at-closed, text_at-further, text_at-stopped}
 use Rattle.json_doc.proofs.text_token.read_text.Goals as goal
@@ -25,7 +25,7 @@ returns-in-Some-clause-only c = λ text rest spelled.
 -- a fault of the character is the text's
 stopped : (c : In_err-c) → Stops (λ stop. text_at c.args.bytes.now ≡ Err stop) c.in_err-c.field-0.0
 stopped c =
-    Stops-weaker _ _ c.in_err-c.field-0.0 (λ stop e. text_at-stopped _ _ _ _ _ stop c.loop-text.invariant.0 c.plain_front.ensures.read c.in_default.ensures e) c.in_err-c.ensures.read
+    Stops-from (λ stop. text_at c.args.bytes.now ≡ Err stop) c.in_err-c.field-0.0 (text_at-stopped _ _ _ _ _ _ c.loop-text.invariant.0 c.plain_front.ensures.read c.in_default.ensures c.in_err-c.ensures.read)
 
 pub returns-in_err-c-clause-fault : goal.returns-in_err-c-clause-fault
 returns-in_err-c-clause-fault c =
