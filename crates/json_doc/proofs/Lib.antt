@@ -5,10 +5,13 @@ pub mod Escapes
 pub mod EscapesAgain
 pub mod Keyed
 pub mod LeastForms
+pub mod NumberLaws
 pub mod NumberScans
+pub mod NumbersAgain
 pub mod TextScans
 pub mod TextSteps
 pub mod Texts
 pub mod TokenParts
 pub mod Utf8Bytes
 pub mod Utf8Parts
+pub mod WholeNumbers
