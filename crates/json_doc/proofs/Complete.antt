@@ -15,6 +15,7 @@ use Rattle.json_doc.specs.Grammar as g
 use Rattle.json_doc.specs.Scan.{made, is_blank, skipped, behind, past, is_number_start, begins_number, scalar_at, key_at, ended, Value, Array, Object, Elements, Members, Scans}
 use Rattle.json_doc.specs.NumberToken.{Number, SpellsNumber, IsDigits, minus, is_exp_mark, number_at, ReadsNumber}
 use Rattle.json_doc.proofs.NumberScans.{Follows, digit_is}
+use Rattle.json_doc.proofs.NumbersAgain.{number_at-spelled}
 use Rattle.json_doc.specs.TextToken.{text_at}
 use Rattle.json_doc.proofs.TextScans.{text_at-spelled}
 use Rattle.json_doc.proofs.Once.{behind-is, other-behind, no_mark}
@@ -55,7 +56,7 @@ follows-ends parts rest ends =
     record { int = λ _ _. (eqb-false (slice_index rest 0) 0x2E point, inr digit); frac = λ _ _. digit; mark = λ _. mark; exp = λ _. digit }
 
 number-read : (parts : Number) (spelled rest : List ℕ) → SpellsNumber parts spelled → Ends rest → number_at (spelled ++ rest) ≡ Ok (parts, rest)
-number-read parts spelled rest spells ends = ?
+number-read parts spelled rest spells ends = number_at-spelled parts spelled rest spells (follows-ends parts rest ends)
 
 digits-begin : (ds more : List ℕ) → IsDigits ds → begins_number (ds ++ more) ≡ true
 digits-begin [] more h = let none = h.0 in absurd (omega arith)

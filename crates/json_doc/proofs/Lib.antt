@@ -8,8 +8,10 @@ pub mod Gathering
 pub mod Keyed
 pub mod LeastForms
 pub mod Local
+pub mod NumberLaws
 pub mod NumberLeft
 pub mod NumberLocal
+pub mod NumbersAgain
 pub mod NumberScans
 pub mod Once
 pub mod Refusals
@@ -25,4 +27,5 @@ pub mod TokenParts
 pub mod Utf8Bytes
 pub mod Utf8Parts
 pub mod ValueLocal
+pub mod WholeNumbers
 pub mod Within

@@ -17,7 +17,7 @@ use Rattle.json_doc.proofs.TextScans.{first_is}
 
 -- Digits.
 
-is_digit : (b : ℕ) → is_ascii_digit b ≡ true → digit_value b < 10
+pub is_digit : (b : ℕ) → is_ascii_digit b ≡ true → digit_value b < 10
 is_digit b e =
     let both = and_parts _ _ e in
     let low = leb-true 48 b both.0 in
@@ -73,7 +73,7 @@ digits_at_ok bs x e = elim (chosen (prefix_len is_ascii_digit bs == 0) _ _ _ e) 
 abbrev pub IsIntAt : List ℕ → List ℕ × List ℕ → Type 0
 IsIntAt bs x = IsInt x.0 × (bs ≡ x.0 ++ x.1) × ((x.0 ≡ 0x30 ∷ []) ⊎ Ends is_ascii_digit x.1)
 
-first_of_digits : (ds rest : List ℕ) → 0 < length ds → slice_index ds 0 ≡ slice_index (ds ++ rest) 0
+pub first_of_digits : (ds rest : List ℕ) → 0 < length ds → slice_index ds 0 ≡ slice_index (ds ++ rest) 0
 first_of_digits [] rest some = absurd (omega arith)
 first_of_digits (d ∷ ds) rest some = refl
 
@@ -123,7 +123,7 @@ sign_at_is bs = elim (cases_Bool (slice_index bs 0 == 0x2D)) [
   ]
 ]
 
-marks : (b : ℕ) → is_exp_mark b ≡ true → 0 < b
+pub marks : (b : ℕ) → is_exp_mark b ≡ true → 0 < b
 marks b e = ⊎_elim (λ h. let is = eqb-true b 0x65 h in omega arith) (λ h. let is = eqb-true b 0x45 h in omega arith) (or_cases _ _ e)
 
 pub exp_at_ok : (bs : List ℕ) (x : Exponent × List ℕ) → exp_at bs ≡ Ok x → IsExpAt bs x

@@ -78,6 +78,14 @@ pub record SpellsNumber (n : Number) (bs : List ℕ) : Type 0 where
   pub is_exp : SpellsExp n.exp exp
   pub whole : bs ≡ minus n.is_negative ++ n.int ++ frac ++ exp
 
+-- no number goes on behind this text as the rest does
+abbrev pub IsWhole : List ℕ → List ℕ → Type 0
+IsWhole text rest = (n : Number) (b : ℕ) (others more : List ℕ) → rest ≡ b ∷ others → SpellsNumber n (text ++ b ∷ more) → ⊥
+
+-- the bytes begin with a number, as long as it can be, behind which is the rest
+abbrev pub BeginsWithNumber : List ℕ → Number → List ℕ → Type 0
+BeginsWithNumber bs n rest = (text : List ℕ) × SpellsNumber n text × (bs ≡ text ++ rest) × IsWhole text rest
+
 -- Reading them from the left.
 
 -- the longest front of digits, one at least

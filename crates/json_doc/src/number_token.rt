@@ -1,10 +1,11 @@
 //! Numbers of JSON (RFC 8259, section 6).
-ghost use Rattle.std.specs.Prelude.{◌≡◌, ◌+◌, ◌*◌, ◌^◌, ◌<◌, ◌≤◌, length, IfOk, IfErr, IfSome, IfNone};
+ghost use Rattle.std.specs.Prelude.{◌≡◌, ◌+◌, ◌*◌, ◌^◌, ◌<◌, ◌≤◌, List, ℕ, length, Ok, Err, IfOk, IfErr, IfSome, IfNone, MatchResult};
 ghost use Rattle.std.specs.Char.{is_ascii_digit};
 ghost use Rattle.std.specs.List.{prefix_len};
 ghost use Rattle.std.specs.Str.Parse.{digits_value, AllDigits};
 ghost use Rattle.json_doc.specs.Reading.{Gives};
-ghost use Rattle.json_doc.specs.NumberToken.{digits_at, int_at, frac_at, sign_at, exp_at, minus_at, number_at, value_of, raised, lowered, HasDigits, ReadsNumber};
+ghost use Rattle.json_doc.specs.NumberToken.{digits_at, int_at, frac_at, sign_at, exp_at, minus_at, number_at, value_of, raised, lowered, HasDigits, Number, BeginsWithNumber, ReadsNumber};
+ghost use Rattle.json_doc.specs.declared.stop.Stop.TheVariants.{NumberTooWide as TooWide};
 ghost use Rattle.json_doc.specs.Exact.{HasValue, HasNoDecimal};
 ghost use Rattle.json_doc.specs.Trimmed.{IsCapped};
 ghost use Rattle.json_doc.specs.NumberParts.{exponent_of, number_of};
@@ -217,6 +218,11 @@ pub(crate) fn read_number(bytes: &[u8]) -> Result<(Decimal, &[u8]), Stop>
     ensures read { IfOk result (λ x. ReadsNumber bytes.now (Ok (x.0, x.1.now))) }
     ensures fault { IfErr result (λ stop. ReadsNumber bytes.now (Err stop)) }
     ensures shorter { IfOk result (λ x. length x.1.now < length bytes.now) }
+    // What is read is a number of the grammar, as long as it can be, and each such number is read.
+    ensures spelled { IfOk result (λ x. (n : Number) × BeginsWithNumber bytes.now n x.1.now × HasValue x.0 (value_of n)) }
+    ensures only { (n : Number) (rest : List ℕ) → BeginsWithNumber bytes.now n rest
+        → MatchResult result (λ x. HasValue x.0 (value_of n) × (x.1.now ≡ rest))
+        (λ stop. (stop ≡ TooWide (length bytes.now)) × HasNoDecimal (value_of n)) }
 {
     let (number, rest) = number_at(bytes)?;
     match decimal_of(&number) {

@@ -1,7 +1,8 @@
-use Rattle.std.proofs.Common.{◌<◌, ◌+◌, arith, Ok, Err}
+use Rattle.std.proofs.Common.{◌<◌, ◌+◌, arith, Ok, Err, sym}
 use Rattle.std.proofs.lemmas.Result.{err_from_is_err_and}
 use Rattle.json_doc.specs.Scan.{Value, Array, Object, Elements, Members}
 use Rattle.json_doc.proofs.Shorter.{behind-lt, skipped-le, value-within, key_at-within}
+use Rattle.json_doc.proofs.TokenParts.{Stops-from}
 use Rattle.json_doc.proofs.Stopping.{Stops-weaker, IfOk-stops, IfErr-stops}
 use Rattle.json_doc.proofs.read_value.+read.Goals as goal
 
@@ -111,3 +112,13 @@ read_value-returns-clause-read t c =
 pub read_value-returns-clause-fault : goal.read_value-returns-clause-fault
 read_value-returns-clause-fault t c =
     IfErr-stops _ _ (λ s. Value c.args.depth c.args.bytes.now (Err s)) (λ s e. Value.scalar c.in_default.ensures c.in_default-strip.ensures (sym c.if-begins_number.ensures) e) c.read_scalar.ensures.fault
+
+pub read_value-returns-in_err-number-clause-fault :
+    goal.read_value-returns-in_err-number-clause-fault
+read_value-returns-in_err-number-clause-fault t c =
+    let p = err_from_is_err_and c.from_residual-in_err-number.result c.from_residual-in_err-number.ensures.1 in
+    rw (p.1, p.2) (Stops-from (λ s. Value c.args.depth c.args.bytes.now (Err s)) _ (Value.number (sym c.if-begins_number.ensures) c.in_err-number.ensures.fault))
+
+pub read_value-returns-then-begins_number-clause-read :
+    goal.read_value-returns-then-begins_number-clause-read
+read_value-returns-then-begins_number-clause-read t c = Value.number (sym c.if-begins_number.ensures) c.in_ok-number.ensures.read
