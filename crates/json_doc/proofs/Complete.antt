@@ -1,8 +1,9 @@
 -- What is in the grammar is read from the left.
-use Rattle.std.proofs.Common.{◌≡◌, ◌==◌, ◌||◌, ℕ, ◌+◌, Bool, true, false, IsTrue, if◌then◌else◌, List, [], ◌∷◌, ◌++◌, Some, None, Ok, Err, refl, sym, ap, subst, ◌∙◌, arith, append_assoc}
-use Rattle.std.specs.Prelude.{IfOk}
+use Rattle.std.proofs.Common.{◌≡◌, ◌==◌, ◌||◌, ℕ, ◌+◌, Bool, true, false, IsTrue, if◌then◌else◌, List, [], ◌∷◌, ◌++◌, Some, None, Ok, Err, refl, sym, ap, subst, ◌∙◌, arith, ⊎_elim, inr, append_assoc}
+use Rattle.std.specs.Prelude.{IfOk, slice_index}
+use Rattle.std.specs.Char.{is_ascii_digit}
 use Rattle.std.specs.List.{AllByRecursion}
-use Rattle.std.proofs.lemmas.Bool.{eqb-true, eq-eqb, false≢true}
+use Rattle.std.proofs.lemmas.Bool.{eqb-true, eqb-false, eq-eqb, false≢true, or_cases}
 use Rattle.std.proofs.lemmas.Result.{IfOk-at_ok}
 use Rattle.json_doc.specs.declared.doc.Doc as doc
 use Rattle.json_doc.specs.declared.doc.Doc.{Doc}
@@ -11,8 +12,13 @@ use Rattle.json_doc.specs.Keys.{put}
 use Rattle.json_doc.specs.Reading.{Read, ◌>>=◌}
 use Rattle.json_doc.specs.Grammar.{Ws, Structural, String, put_all, Reads}
 use Rattle.json_doc.specs.Grammar as g
-use Rattle.json_doc.specs.Scan.{made, is_blank, is_plain, skipped, behind, past, text_at, scalar_at, key_at, ended, Value, Array, Object, Elements, Members, Scans}
-use Rattle.json_doc.proofs.Once.{behind-is, other-behind}
+use Rattle.json_doc.specs.Scan.{made, is_blank, skipped, behind, past, is_number_start, begins_number, scalar_at, key_at, ended, Value, Array, Object, Elements, Members, Scans}
+use Rattle.json_doc.specs.NumberToken.{Number, SpellsNumber, IsDigits, minus, is_exp_mark, number_at, ReadsNumber}
+use Rattle.json_doc.proofs.NumberScans.{Follows, digit_is}
+use Rattle.json_doc.proofs.NumbersAgain.{number_at-spelled}
+use Rattle.json_doc.specs.TextToken.{text_at}
+use Rattle.json_doc.proofs.TextScans.{text_at-spelled}
+use Rattle.json_doc.proofs.Once.{behind-is, other-behind, no_mark}
 use Rattle.json_doc.proofs.Sound.{Ws-skipped, past-is, IfOk-bind}
 
 -- where a value may end: at the end of the bytes, a blank, a comma or a closing bracket
@@ -30,18 +36,51 @@ taken b x y e = ap (λ v. if v then x else y) e
 left_out : {A : Type 0} (b : Bool) (x y : A) → b ≡ false → (if b then x else y) ≡ y
 left_out b x y e = ap (λ v. if v then x else y) e
 
-plain-no_quote : (b : ℕ) → is_plain b ≡ true → b == 34 ≡ false
-plain-no_quote b plain =
-    elim (b == 34) as (λ v. b == 34 ≡ v → v ≡ false)
-    [ true ↦ (λ e. absurd (false≢true (subst (λ c. is_plain c ≡ true) (eqb-true b 34 e) plain))) | false ↦ (λ e. refl) ] refl
-
-plain-read : (t rest : List ℕ) → AllByRecursion (λ b. IsTrue (is_plain b)) t → text_at (t ++ 34 ∷ rest) ≡ Ok (t, rest)
-plain-read [] rest h = refl
-plain-read (b ∷ t) rest h =
-    left_out (b == 34) _ _ (plain-no_quote b h.0) ∙ taken (is_plain b) _ _ h.0 ∙ ap (made (λ t. b ∷ t)) (plain-read t rest h.1)
-
 text-read : (bs t rest : List ℕ) → String bs t rest → (ks : List ℕ) × (bs ≡ 34 ∷ ks) × (text_at ks ≡ Ok (t, rest))
-text-read bs t rest (plain, e) = (t ++ 34 ∷ rest, e, plain-read t rest plain)
+text-read bs t rest (chars, e, h) = (chars, e, text_at-spelled chars t rest h)
+
+-- a byte at which a value may end passes no test that none of them passes
+ends-test : (p : ℕ → Bool) (rest : List ℕ) → p 0 ≡ false → p 32 ≡ false → p 9 ≡ false → p 10 ≡ false → p 13 ≡ false → p 44 ≡ false → p 93 ≡ false → p 125 ≡ false
+    → Ends rest → p (slice_index rest 0) ≡ false
+ends-test p [] none space tab feed return comma bracket brace ends = none
+ends-test p (b ∷ bs) none space tab feed return comma bracket brace ends =
+    let at = λ (c : ℕ) (h : p c ≡ false) (e : b == c ≡ true). subst (λ x. p x ≡ false) (sym (eqb-true b c e)) h in
+    ⊎_elim (λ marks. ⊎_elim (λ marks. ⊎_elim (λ blanks. ⊎_elim (λ blanks. ⊎_elim (λ blanks. ⊎_elim (at 32 space) (at 9 tab) (or_cases _ _ blanks)) (at 10 feed) (or_cases _ _ blanks)) (at 13 return) (or_cases _ _ blanks))
+    (at 44 comma) (or_cases _ _ marks)) (at 93 bracket) (or_cases _ _ marks)) (at 125 brace) (or_cases _ _ ends)
+
+follows-ends : (parts : Number) (rest : List ℕ) → Ends rest → Follows parts rest
+follows-ends parts rest ends =
+    let digit = ends-test is_ascii_digit rest refl refl refl refl refl refl refl refl ends in
+    let mark = ends-test is_exp_mark rest refl refl refl refl refl refl refl refl ends in
+    let point = ends-test (λ b. b == 0x2E) rest refl refl refl refl refl refl refl refl ends in
+    record { int = λ _ _. (eqb-false (slice_index rest 0) 0x2E point, inr digit); frac = λ _ _. digit; mark = λ _. mark; exp = λ _. digit }
+
+number-read : (parts : Number) (spelled rest : List ℕ) → SpellsNumber parts spelled → Ends rest → number_at (spelled ++ rest) ≡ Ok (parts, rest)
+number-read parts spelled rest spells ends = number_at-spelled parts spelled rest spells (follows-ends parts rest ends)
+
+digits-begin : (ds more : List ℕ) → IsDigits ds → begins_number (ds ++ more) ≡ true
+digits-begin [] more h = let none = h.0 in absurd (omega arith)
+digits-begin (d ∷ ds) more h = ap (λ v. d == 45 || v) (digit_is d h.1.0) ∙ or_true (d == 45)
+  where
+    or_true : (b : Bool) → (b || true) ≡ true
+    or_true true = refl
+    or_true false = refl
+
+spelled-begins : (parts : Number) (spelled rest : List ℕ) → SpellsNumber parts spelled → begins_number (spelled ++ rest) ≡ true
+spelled-begins parts spelled rest spells =
+    let regrouped : spelled ++ rest ≡ minus parts.is_negative ++ (parts.int ++ (spells.frac ++ (spells.exp ++ rest))) = ap (λ cs. cs ++ rest) spells.whole ∙ simp append_assoc in
+    subst (λ cs. begins_number cs ≡ true) (sym regrouped)
+    (elim parts.is_negative as (λ v. begins_number (minus v ++ (parts.int ++ (spells.frac ++ (spells.exp ++ rest)))) ≡ true) [ true ↦ refl | false ↦ digits-begin parts.int (spells.frac ++ (spells.exp ++ rest)) spells.is_int.0 ])
+
+blank_starts : (b : ℕ) → is_blank b ≡ true → is_number_start b ≡ true → ⊥
+blank_starts b blank start =
+    let at = λ (c : ℕ) (h : is_number_start c ≡ false) (e : b == c ≡ true). false≢true (sym h ∙ subst (λ x. is_number_start x ≡ true) (eqb-true b c e) start) in
+    ⊎_elim (λ bs. ⊎_elim (λ bs. ⊎_elim (at 32 refl) (at 9 refl) (or_cases _ _ bs)) (at 10 refl) (or_cases _ _ bs)) (at 13 refl) (or_cases _ _ blank)
+
+number-skipped : (bs : List ℕ) → begins_number bs ≡ true → skipped bs ≡ bs
+number-skipped [] begins = refl
+number-skipped (b ∷ bs) begins =
+    elim (is_blank b) as (λ v. is_blank b ≡ v → (if v then skipped bs else b ∷ bs) ≡ b ∷ bs) [ true ↦ (λ e. absurd (blank_starts b e begins)) | false ↦ (λ e. refl) ] refl
 
 always : {A : Type 0} (o : Read A) (P : Type 0) → P → IfOk o (λ _. P)
 always (Ok x) P h = h
@@ -57,7 +96,8 @@ scalar_opens (b ∷ bs) =
     ] refl
 
 value_opens : {n : ℕ} {bs : List ℕ} {o : Read Doc} → Value n bs o → IfOk o (λ _. behind 93 bs ≡ None)
-value_opens (Value.scalar {bs = bs} e f h) = subst (λ o. IfOk o (λ _. behind 93 bs ≡ None)) h (scalar_opens bs)
+value_opens (Value.number {bs = bs} {o = o} starts r) = always (made doc.Number o) (behind 93 bs ≡ None) (no_mark 93 bs refl starts)
+value_opens (Value.scalar {bs = bs} e f apart h) = subst (λ o. IfOk o (λ _. behind 93 bs ≡ None)) h (scalar_opens bs)
 value_opens (Value.array {bs = bs} {ws = ws} {o = o} e less a) = always (made doc.Items o) (behind 93 bs ≡ None) (other-behind 91 93 bs ws (λ h. absurd (omega arith)) e)
 value_opens (Value.object {bs = bs} {ws = ws} {o = o} e less a) = always (made doc.Fields o) (behind 93 bs ≡ None) (other-behind 123 93 bs ws (λ h. absurd (omega arith)) e)
 value_opens (Value.deep_array e more) = tt
@@ -107,11 +147,20 @@ ReadsValue n bs d rest = (ws : List ℕ) × Value n (skipped bs) (Ok (d, ws)) ×
 
 mutual
   value_complete : {n : ℕ} {bs : List ℕ} {d : Doc} {rest : List ℕ} → g.Value n bs d rest → Ends rest → ReadsValue n bs d rest
-  value_complete (g.Value.null {n = n} {bs = bs} {rest = rest} e) ends =
-      subst (λ cs. ReadsValue n cs doc.Null rest) (sym e) (rest, Value.scalar refl refl refl, refl)
+  value_complete (g.Value.false_name {n = n} {bs = bs} {rest = rest} e) ends =
+      subst (λ cs. ReadsValue n cs (doc.Flag false) rest) (sym e) (rest, Value.scalar refl refl refl refl, refl)
+  value_complete (g.Value.null_name {n = n} {bs = bs} {rest = rest} e) ends =
+      subst (λ cs. ReadsValue n cs doc.Null rest) (sym e) (rest, Value.scalar refl refl refl refl, refl)
+  value_complete (g.Value.true_name {n = n} {bs = bs} {rest = rest} e) ends =
+      subst (λ cs. ReadsValue n cs (doc.Flag true) rest) (sym e) (rest, Value.scalar refl refl refl refl, refl)
+  value_complete (g.Value.number {n = n} {bs = bs} {spelled = spelled} {rest = rest} {parts = parts} {m = m} spells value e) ends =
+      let read : number_at bs ≡ Ok (parts, rest) = ap number_at e ∙ number-read parts spelled rest spells ends in
+      let begins = spelled-begins parts spelled rest spells in
+      let begins_all = subst (λ cs. begins_number cs ≡ true) (sym e) begins in
+      (rest, subst (λ cs. Value n cs (Ok (doc.Number m, rest))) (sym (number-skipped bs begins_all)) (Value.number begins_all (ReadsNumber.read read value)), refl)
   value_complete (g.Value.string {n = n} {bs = bs} {t = t} {rest = rest} s) ends =
       let h = text-read bs t rest s in
-      subst (λ cs. ReadsValue n cs (doc.Str t) rest) (sym h.1) (rest, Value.scalar refl refl (ap (made doc.Str) h.2), refl)
+      subst (λ cs. ReadsValue n cs (doc.Str t) rest) (sym h.1) (rest, Value.scalar refl refl refl (ap (made doc.Str) h.2), refl)
   value_complete (g.Value.empty_array {n = n} {bs = bs} {ws = ws} {rest = rest} less begins closes) ends =
       let m = marked 91 bs bs ws refl begins refl in
       let c = marked 93 m.0 ws rest refl closes m.2 in

@@ -1,5 +1,5 @@
--- What is behind a part is no longer than the part's bytes.
-use Rattle.std.proofs.Common.{◌≡◌, ◌==◌, ℕ, ◌<◌, ◌≤◌, Bool, true, false, if◌then◌else◌, List, [], ◌∷◌, length, Some, None, Result, Ok, Err, subst, arith}
+-- What is behind a part, or left at its fault, is no longer than the part's bytes.
+use Rattle.std.proofs.Common.{◌≡◌, ◌==◌, ℕ, ◌<◌, ◌≤◌, Bool, true, false, if◌then◌else◌, List, [], ◌∷◌, length, Some, None, Result, Ok, Err, sym, subst, arith}
 use Rattle.std.specs.Prelude.{codes}
 use Rattle.json_doc.specs.declared.doc.Doc as doc
 use Rattle.json_doc.specs.declared.doc.Doc.{Doc}
@@ -7,19 +7,11 @@ use Rattle.json_doc.specs.declared.pairs.Pair.{Pair}
 use Rattle.json_doc.specs.declared.stop.Stop.{Stop}
 use Rattle.json_doc.specs.declared.stop.Stop.TheVariants.{Syntax}
 use Rattle.json_doc.specs.Reading.{Read, ◌>>=◌}
-use Rattle.json_doc.specs.Scan.{made, is_blank, is_plain, skipped, behind, past, past_word, text_at, scalar_at, key_at, Value, Array, Object, Elements, Members}
-
-abbrev Within : {A : Type 0} → List ℕ → Read A → Type 0
-Within bs (Ok x) = length x.1 ≤ length bs
-Within bs (Err stop) = Unit {0}
-
--- the same of bytes alone
-abbrev Left : List ℕ → Result (List ℕ) Stop → Type 0
-Left bs (Ok rest) = length rest ≤ length bs
-Left bs (Err stop) = Unit {0}
-
-either : {A : Type 0} (P : A → Type 0) (b : Bool) (x y : A) → P x → P y → P (if b then x else y)
-either P b x y p q = elim b as (λ v. P (if v then x else y)) [ true ↦ p | false ↦ q ]
+use Rattle.json_doc.specs.TextToken.{text_at}
+use Rattle.json_doc.proofs.Within.{Within, Left, left_of, either, wider, bind-within}
+use Rattle.json_doc.proofs.NumberLeft.{ReadsNumber-within}
+use Rattle.json_doc.proofs.TextLeft.{text_at-within}
+use Rattle.json_doc.specs.Scan.{made, is_blank, skipped, behind, past, past_word, named, scalar_at, key_at, ended, Value, Array, Object, Elements, Members, Scans}
 
 pub skipped-le : (bs : List ℕ) → length (skipped bs) ≤ length bs
 skipped-le [] = omega arith
@@ -31,60 +23,44 @@ behind-lt c (b ∷ bs) rest e =
     elim (b == c) as (λ v. (if v then Some bs else None) ≡ Some rest → length rest < length (b ∷ bs))
     [ true ↦ (λ f. let same : bs ≡ rest = cc in subst (λ cs. length cs < length (b ∷ bs)) same (omega arith)) | false ↦ (λ f. absurd cc) ] e
 
-past-le : (c : ℕ) (bs : List ℕ) → Left bs (past c bs)
-past-le c [] = tt
-past-le c (b ∷ bs) = either (Left (b ∷ bs)) (b == c) (Ok bs) (Err (Syntax (length (b ∷ bs)))) (omega arith) tt
+pub past-le : (c : ℕ) (bs : List ℕ) → Left bs (past c bs)
+past-le c [] = omega arith
+past-le c (b ∷ bs) = either (Left (b ∷ bs)) (b == c) (Ok bs) (Err (Syntax (length (b ∷ bs)))) (omega arith) (omega arith)
 
 left-wider : (bs cs : List ℕ) (r : Result (List ℕ) Stop) → length bs ≤ length cs → Left bs r → Left cs r
 left-wider bs cs (Ok rest) le h = omega arith
-left-wider bs cs (Err stop) le h = tt
+left-wider bs cs (Err stop) le h = omega arith
 
-past_skipped-le : (c : ℕ) (bs : List ℕ) → Left bs (past c (skipped bs))
+pub past_skipped-le : (c : ℕ) (bs : List ℕ) → Left bs (past c (skipped bs))
 past_skipped-le c bs = left-wider (skipped bs) bs (past c (skipped bs)) (skipped-le bs) (past-le c (skipped bs))
 
-made-within : {A B : Type 0} (f : A → B) (bs : List ℕ) (o : Read A) → Within bs o → Within bs (made f o)
+pub made-within : {A B : Type 0} (f : A → B) (bs : List ℕ) (o : Read A) → Within bs o → Within bs (made f o)
 made-within f bs (Ok x) h = h
-made-within f bs (Err stop) h = tt
+made-within f bs (Err stop) h = h
 
-wider : {A : Type 0} (bs cs : List ℕ) (o : Read A) → length bs ≤ length cs → Within bs o → Within cs o
-wider bs cs (Ok x) le h = omega arith
-wider bs cs (Err stop) le h = tt
-
-bind-left : {B : Type 0} (bs : List ℕ) (r : Result (List ℕ) Stop) (f : List ℕ → Read B) → Left bs r → ((cs : List ℕ) → Within cs (f cs)) → Within bs (r >>= f)
+pub bind-left : {B : Type 0} (bs : List ℕ) (r : Result (List ℕ) Stop) (f : List ℕ → Read B) → Left bs r → ((cs : List ℕ) → Within cs (f cs)) → Within bs (r >>= f)
 bind-left bs (Ok cs) f h g = wider cs bs (f cs) h (g cs)
-bind-left bs (Err stop) f h g = tt
-
-bind-within : {A B : Type 0} (bs : List ℕ) (r : Read A) (f : A × List ℕ → Read B) → Within bs r → ((x : A × List ℕ) → Within x.1 (f x)) → Within bs (r >>= f)
-bind-within bs (Ok x) f h g = wider x.1 bs (f x) h (g x)
-bind-within bs (Err stop) f h g = tt
+bind-left bs (Err stop) f h g = h
 
 left-left : (bs : List ℕ) (r : Result (List ℕ) Stop) (f : List ℕ → Result (List ℕ) Stop) → Left bs r → ((cs : List ℕ) → Left cs (f cs)) → Left bs (r >>= f)
 left-left bs (Ok cs) f h g = left-wider cs bs (f cs) h (g cs)
-left-left bs (Err stop) f h g = tt
+left-left bs (Err stop) f h g = h
 
-past_word-le : (word bs : List ℕ) → Left bs (past_word word bs)
+pub past_word-le : (word bs : List ℕ) → Left bs (past_word word bs)
 past_word-le [] bs = omega arith
 past_word-le (c ∷ cs) bs = left-left bs (past c bs) (past_word cs) (past-le c bs) (past_word-le cs)
 
-named-within : (d : Doc) (word bs : List ℕ) → Within bs (past_word word bs >>= (λ rest. Ok (d, rest)))
+pub named-within : (d : Doc) (word bs : List ℕ) → Within bs (named d word bs)
 named-within d word bs = bind-left bs (past_word word bs) (λ rest. Ok (d, rest)) (past_word-le word bs) (λ cs. omega arith)
 
-text_at-within : (bs : List ℕ) → Within bs (text_at bs)
-text_at-within [] = tt
-text_at-within (b ∷ bs) =
-    let rest = made-within (λ t. b ∷ t) (b ∷ bs) (text_at bs) (wider bs (b ∷ bs) (text_at bs) (omega arith) (text_at-within bs)) in
-    let fault : Read (List ℕ) = Err (Syntax (length (b ∷ bs))) in
-    either (Within (b ∷ bs)) (b == 34) (Ok ([], bs)) (if is_plain b then made (λ t. b ∷ t) (text_at bs) else fault) (omega arith)
-    (either (Within (b ∷ bs)) (is_plain b) (made (λ t. b ∷ t) (text_at bs)) fault rest tt)
-
 scalar_at-within : (bs : List ℕ) → Within bs (scalar_at bs)
-scalar_at-within [] = tt
+scalar_at-within [] = omega arith
 scalar_at-within (b ∷ bs) =
     let more : length bs ≤ length (b ∷ bs) = omega arith in
-    let fault : Read Doc = Err (Syntax (length (b ∷ bs))) in
     let text = wider bs (b ∷ bs) (made doc.Str (text_at bs)) more (made-within doc.Str bs (text_at bs) (text_at-within bs)) in
-    let null = wider bs (b ∷ bs) _ more (named-within doc.Null (codes "ull") bs) in
-    either (Within (b ∷ bs)) (b == 34) _ _ text (either (Within (b ∷ bs)) (b == 110) _ fault null tt)
+    let word = λ (d : Doc) (w : List ℕ). wider bs (b ∷ bs) (named d w bs) more (named-within d w bs) in
+    either (Within (b ∷ bs)) (b == 34) _ _ text (either (Within (b ∷ bs)) (b == 102) _ _ (word (doc.Flag false) (codes "alse"))
+    (either (Within (b ∷ bs)) (b == 110) _ _ (word doc.Null (codes "ull")) (either (Within (b ∷ bs)) (b == 116) _ _ (word (doc.Flag true) (codes "rue")) (omega arith))))
 
 key-within : (bs : List ℕ) → Within bs (key_at bs)
 key-within bs =
@@ -108,35 +84,45 @@ comma-within : {A : Type 0} (bs ws rest : List ℕ) (o : Read A) → length ws �
 comma-within bs ws rest o le e h = wider (skipped rest) bs o (omega (arith, behind_skipped-le 44 ws rest e, skipped-le rest)) h
 
 mutual
-  value_in-within : {n : ℕ} {bs : List ℕ} {o : Read Doc} → Value n bs o → Within bs o
-  value_in-within (Value.scalar {bs = bs} e f g) = subst (Within bs) g (scalar_at-within bs)
+  pub value_in-within : {n : ℕ} {bs : List ℕ} {o : Read Doc} → Value n bs o → Within bs o
+  value_in-within (Value.number {bs = bs} {o = o} starts r) = made-within doc.Number bs o (ReadsNumber-within bs o r)
+  value_in-within (Value.scalar {bs = bs} e f apart g) = subst (Within bs) g (scalar_at-within bs)
   value_in-within (Value.array {bs = bs} {ws = ws} {o = o} e less a) = made-within doc.Items bs o (skipped-within 91 bs ws o e (array_in-within a))
   value_in-within (Value.object {bs = bs} {ws = ws} {o = o} e less a) = made-within doc.Fields bs o (skipped-within 123 bs ws o e (object_in-within a))
-  value_in-within (Value.deep_array e more) = tt
-  value_in-within (Value.deep_object e more) = tt
+  value_in-within (Value.deep_array e more) = omega arith
+  value_in-within (Value.deep_object e more) = omega arith
 
-  array_in-within : {n : ℕ} {bs : List ℕ} {o : Read (List Doc)} → Array n bs o → Within bs o
+  pub array_in-within : {n : ℕ} {bs : List ℕ} {o : Read (List Doc)} → Array n bs o → Within bs o
   array_in-within (Array.empty_array {bs = bs} {rest = rest} e) = behind-le 93 bs rest e
   array_in-within (Array.full_array e es) = elements_in-within es
 
-  elements_in-within : {n : ℕ} {ds : List Doc} {bs : List ℕ} {o : Read (List Doc)} → Elements n ds bs o → Within bs o
-  elements_in-within (Elements.bad_element v) = tt
+  pub elements_in-within : {n : ℕ} {ds : List Doc} {bs : List ℕ} {o : Read (List Doc)} → Elements n ds bs o → Within bs o
+  elements_in-within (Elements.bad_element v) = value_in-within v
   elements_in-within (Elements.last_element {ws = ws} {rest = rest} v e) = omega (arith, value_in-within v, behind_skipped-le 93 ws rest e)
   elements_in-within (Elements.more_elements {bs = bs} {ws = ws} {rest = rest} {o = o} v e f es) = comma-within bs ws rest o (value_in-within v) f (elements_in-within es)
-  elements_in-within (Elements.open_array v e f) = tt
+  elements_in-within (Elements.open_array {ws = ws} v e f) = omega (arith, value_in-within v, skipped-le ws)
 
-  object_in-within : {n : ℕ} {bs : List ℕ} {o : Read (List (Pair Doc))} → Object n bs o → Within bs o
+  pub object_in-within : {n : ℕ} {bs : List ℕ} {o : Read (List (Pair Doc))} → Object n bs o → Within bs o
   object_in-within (Object.empty_object {bs = bs} {rest = rest} e) = behind-le 125 bs rest e
   object_in-within (Object.full_object e ms) = members_in-within ms
 
-  members_in-within : {n : ℕ} {ps : List (Pair Doc)} {bs : List ℕ} {o : Read (List (Pair Doc))} → Members n ps bs o → Within bs o
-  members_in-within (Members.bad_key e) = tt
-  members_in-within (Members.bad_member e v) = tt
+  pub members_in-within : {n : ℕ} {ps : List (Pair Doc)} {bs : List ℕ} {o : Read (List (Pair Doc))} → Members n ps bs o → Within bs o
+  members_in-within (Members.bad_key {bs = bs} e) = subst (Within bs) e (key-within bs)
+  members_in-within (Members.bad_member {bs = bs} {k = k} {vs = vs} e v) = omega (arith, value_in-within v, key_at-within bs (k, vs) e)
   members_in-within (Members.last_member {bs = bs} {k = k} {vs = vs} {ws = ws} {rest = rest} e v f) =
       omega (arith, key_at-within bs (k, vs) e, value_in-within v, behind_skipped-le 125 ws rest f)
   members_in-within (Members.more_members {bs = bs} {k = k} {vs = vs} {ws = ws} {rest = rest} {o = o} e v f g ms) =
       wider vs bs o (key_at-within bs (k, vs) e) (comma-within vs ws rest o (value_in-within v) g (members_in-within ms))
-  members_in-within (Members.open_object e v f g) = tt
+  members_in-within (Members.open_object {bs = bs} {k = k} {vs = vs} {ws = ws} e v f g) = omega (arith, key_at-within bs (k, vs) e, value_in-within v, skipped-le ws)
 
 pub value-within : {n : ℕ} {bs rest : List ℕ} {d : Doc} → Value n bs (Ok (d, rest)) → length rest ≤ length bs
 value-within v = value_in-within v
+
+ended-within : (d : Doc) (bs : List ℕ) (stop : Stop) → ended d bs ≡ Err stop → left_of stop ≤ length bs
+ended-within d [] stop e = absurd cc
+ended-within d (b ∷ bs) stop e = let same : Syntax (length (b ∷ bs)) ≡ stop = cc in subst (λ t. left_of t ≤ length (b ∷ bs)) same (omega arith)
+
+-- the fault of a whole text stands in it
+pub Scans-within : (bs : List ℕ) (stop : Stop) → Scans bs (Err stop) → left_of stop ≤ length bs
+Scans-within bs stop (Err s, v, e) = let same : stop ≡ s = cc in subst (λ t. left_of t ≤ length bs) (sym same) (omega (arith, value_in-within v, skipped-le bs))
+Scans-within bs stop (Ok x, v, e) = omega (arith, value_in-within v, skipped-le bs, skipped-le x.1, ended-within x.0 (skipped x.1) stop (sym e))

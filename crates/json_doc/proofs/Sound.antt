@@ -4,6 +4,7 @@ use Rattle.std.proofs.lemmas.Bool.{eqb-true}
 use Rattle.std.proofs.lemmas.Result.{IfOk-weaker, IfOk-at_ok}
 use Rattle.std.specs.Prelude.{codes, IfOk}
 use Rattle.std.specs.List.{AllByRecursion}
+use Rattle.json_doc.specs.declared.decimal.Decimal.{Decimal}
 use Rattle.json_doc.specs.declared.doc.Doc as doc
 use Rattle.json_doc.specs.declared.doc.Doc.{Doc}
 use Rattle.json_doc.specs.declared.pairs.Pair.{Pair}
@@ -13,7 +14,11 @@ use Rattle.json_doc.specs.Keys.{put}
 use Rattle.json_doc.specs.Grammar.{Ws, Structural, String, put_all, Reads}
 use Rattle.json_doc.specs.Grammar as g
 use Rattle.json_doc.specs.Reading.{Read, ◌>>=◌}
-use Rattle.json_doc.specs.Scan.{made, is_blank, is_plain, skipped, behind, past, past_word, text_at, scalar_at, key_at, ended, Value, Array, Object, Elements, Members, Scans}
+use Rattle.json_doc.specs.Scan.{made, is_blank, skipped, behind, past, past_word, named, scalar_at, key_at, ended, Value, Array, Object, Elements, Members, Scans}
+use Rattle.json_doc.specs.NumberToken.{ReadsNumber}
+use Rattle.json_doc.proofs.NumberScans.{number_at_ok}
+use Rattle.json_doc.specs.TextToken.{text_at}
+use Rattle.json_doc.proofs.TextScans.{text_at_ok}
 use Rattle.json_doc.proofs.Once.{behind-is}
 
 pub either : {A : Type 0} (P : A → Type 0) (b : Bool) (x y : A) → (b ≡ true → P x) → (b ≡ false → P y) → P (if b then x else y)
@@ -73,17 +78,12 @@ past_word-is (c ∷ cs) bs =
     IfOk-bind (past c bs) (past_word cs) (λ rest. bs ≡ c ∷ rest) (λ rest. bs ≡ c ∷ cs ++ rest) (past-is c bs)
     (λ ws e. IfOk-weaker (past_word cs ws) (λ rest. ws ≡ cs ++ rest) (λ rest. bs ≡ c ∷ cs ++ rest) (λ rest f. e ∙ ap (λ v. c ∷ v) f) (past_word-is cs ws))
 
+IfOk-from : {A : Type 0} (o : Read A) (P : A × List ℕ → Type 0) → ((x : A × List ℕ) → o ≡ Ok x → P x) → IfOk o P
+IfOk-from (Ok x) P f = f x refl
+IfOk-from (Err stop) P f = tt
+
 text-is : (bs : List ℕ) → IfOk (text_at bs) (λ x. String (34 ∷ bs) x.0 x.1)
-text-is [] = tt
-text-is (b ∷ bs) =
-    let fault : Read (List ℕ) = Err (Syntax (length (b ∷ bs))) in
-    let P : Read (List ℕ) → Type 0 = λ o. IfOk o (λ x. String (34 ∷ b ∷ bs) x.0 x.1) in
-    either P (b == 34) (Ok ([], bs)) (if is_plain b then made (λ t. b ∷ t) (text_at bs) else fault)
-    (λ e. (tt, ap (λ c. 34 ∷ c ∷ bs) (eqb-true b 34 e)))
-    (λ e. either P (is_plain b) (made (λ t. b ∷ t) (text_at bs)) fault
-    (λ plain. IfOk-made (λ t. b ∷ t) (text_at bs) (λ x. String (34 ∷ b ∷ bs) x.0 x.1) (IfOk-weaker (text_at bs) (λ x. String (34 ∷ bs) x.0 x.1) (λ x. String (34 ∷ b ∷ bs) (b ∷ x.0) x.1)
-    (λ x h. ((plain, h.0), ap (λ cs. 34 ∷ b ∷ drop 1 cs) h.1)) (text-is bs)))
-    (λ plain. tt))
+text-is bs = IfOk-from (text_at bs) (λ x. String (34 ∷ bs) x.0 x.1) (λ x e. (bs, refl, text_at_ok bs x e))
 
 key-is : (bs : List ℕ) → IfOk (key_at bs) (λ x. (ws : List ℕ) × String bs x.0 ws × Structural 58 ws x.1)
 key-is bs =
@@ -92,18 +92,28 @@ key-is bs =
     IfOk-bind (past 58 (skipped x.1)) _ (λ ws. Structural 58 x.1 (skipped ws)) _ (past_mark 58 x.1) (λ ws m.
     (x.1, subst (λ cs. String cs x.0 x.1) (sym e) h, m))))
 
+-- the letters behind a first one make a value
+named-is : (n c : ℕ) (d : Doc) (word bs : List ℕ) (b : ℕ) → ((rest : List ℕ) → g.Value n (c ∷ word ++ rest) d rest) → b == c ≡ true → IfOk (named d word bs) (λ x. g.Value n (b ∷ bs) x.0 x.1)
+named-is n c d word bs b value e =
+    IfOk-bind (past_word word bs) (λ rest. Ok (d, rest)) (λ rest. bs ≡ word ++ rest) (λ x. g.Value n (b ∷ bs) x.0 x.1) (past_word-is word bs)
+    (λ rest f. subst (λ cs. g.Value n cs d rest) (sym (ap (λ cs. b ∷ cs) f ∙ ap (λ a. a ∷ word ++ rest) (eqb-true b c e))) (value rest))
+
 scalar-is : (n : ℕ) (bs : List ℕ) → IfOk (scalar_at bs) (λ x. g.Value n bs x.0 x.1)
 scalar-is n [] = tt
 scalar-is n (b ∷ bs) =
-    let fault : Read Doc = Err (Syntax (length (b ∷ bs))) in
     let P : Read Doc → Type 0 = λ o. IfOk o (λ x. g.Value n (b ∷ bs) x.0 x.1) in
-    either P (b == 34) _ _
-    (λ e. IfOk-made doc.Str (text_at bs) (λ x. g.Value n (b ∷ bs) x.0 x.1) (IfOk-weaker (text_at bs) (λ x. String (34 ∷ bs) x.0 x.1) (λ x. g.Value n (b ∷ bs) (doc.Str x.0) x.1)
-    (λ x h. g.Value.string (subst (λ c. String (c ∷ bs) x.0 x.1) (sym (eqb-true b 34 e)) h)) (text-is bs)))
-    (λ _. either P (b == 110) (past_word (codes "ull") bs >>= (λ rest. Ok (doc.Null, rest))) fault
-    (λ e. IfOk-bind (past_word (codes "ull") bs) _ (λ rest. bs ≡ codes "ull" ++ rest) _ (past_word-is (codes "ull") bs)
-    (λ rest f. g.Value.null (ap (λ cs. b ∷ cs) f ∙ ap (λ c. c ∷ codes "ull" ++ rest) (eqb-true b 110 e))))
-    (λ _. tt))
+    let text : b == 34 ≡ true → P (made doc.Str (text_at bs)) = λ e.
+        IfOk-made doc.Str (text_at bs) (λ x. g.Value n (b ∷ bs) x.0 x.1) (IfOk-weaker (text_at bs) (λ x. String (34 ∷ bs) x.0 x.1) (λ x. g.Value n (b ∷ bs) (doc.Str x.0) x.1)
+        (λ x h. g.Value.string (subst (λ c. String (c ∷ bs) x.0 x.1) (sym (eqb-true b 34 e)) h)) (text-is bs)) in
+    either P (b == 34) _ _ text
+    (λ _. either P (b == 102) _ _ (named-is n 102 (doc.Flag false) (codes "alse") bs b (λ rest. g.Value.false_name refl))
+    (λ _. either P (b == 110) _ _ (named-is n 110 doc.Null (codes "ull") bs b (λ rest. g.Value.null_name refl))
+    (λ _. either P (b == 116) _ _ (named-is n 116 (doc.Flag true) (codes "rue") bs b (λ rest. g.Value.true_name refl)) (λ _. tt))))
+
+number-is : (n : ℕ) (bs : List ℕ) (o : Read Decimal) → ReadsNumber bs o → IfOk o (λ x. g.Value n bs (doc.Number x.0) x.1)
+number-is n bs o (ReadsNumber.read {rest = rest} {n = parts} e value) = let t = number_at_ok bs (parts, rest) e in g.Value.number t.1 value t.2
+number-is n bs o (ReadsNumber.too_wide e none) = tt
+number-is n bs o (ReadsNumber.broken e) = tt
 
 -- behind an opening bracket and blanks
 abbrev Inside : ℕ → List ℕ → List Doc → List ℕ → Type 0
@@ -124,7 +134,8 @@ object-is n bs vs ps rest less begins inside =
 
 mutual
   value_sound : {n : ℕ} {bs : List ℕ} {o : Read Doc} → Value n bs o → IfOk o (λ x. g.Value n bs x.0 x.1)
-  value_sound (Value.scalar {n = n} {bs = bs} e f h) = subst (λ o. IfOk o (λ x. g.Value n bs x.0 x.1)) h (scalar-is n bs)
+  value_sound (Value.number {n = n} {bs = bs} {o = o} starts r) = IfOk-made doc.Number o (λ x. g.Value n bs x.0 x.1) (number-is n bs o r)
+  value_sound (Value.scalar {n = n} {bs = bs} e f apart h) = subst (λ o. IfOk o (λ x. g.Value n bs x.0 x.1)) h (scalar-is n bs)
   value_sound (Value.array {n = n} {bs = bs} {ws = ws} {o = o} e less a) =
       IfOk-made doc.Items o (λ x. g.Value n bs x.0 x.1) (IfOk-weaker o (λ x. Inside (n + 1) (skipped ws) x.0 x.1) (λ x. g.Value n bs (doc.Items x.0) x.1)
       (λ x h. array-is n bs (skipped ws) x.0 x.1 less (first_mark 91 bs ws e) h) (array_sound a))

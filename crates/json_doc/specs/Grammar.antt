@@ -1,13 +1,17 @@
 -- The grammar of JSON texts (RFC 8259), under the names of its rules. A rule relates the bytes at
 -- its start, what they stand for, and the bytes behind it. At most 100 arrays and objects stand in
 -- one another: `n` counts those that are open.
-use Rattle.std.specs.Prelude.{◌≡◌, ℕ, ◌+◌, ◌<◌, IsTrue, codes, List, [], ◌∷◌, ◌++◌}
+use Rattle.std.specs.Prelude.{◌≡◌, ℕ, ◌+◌, ◌<◌, IsTrue, false, true, codes, List, [], ◌∷◌, ◌++◌}
 use Rattle.std.specs.List.{AllByRecursion}
+use Rattle.json_doc.specs.declared.decimal.Decimal.{Decimal}
 use Rattle.json_doc.specs.declared.doc.Doc as doc
 use Rattle.json_doc.specs.declared.doc.Doc.{Doc}
 use Rattle.json_doc.specs.declared.pairs.Pair.{Pair}
 use Rattle.json_doc.specs.Keys.{put}
-use Rattle.json_doc.specs.Scan.{is_blank, is_plain}
+use Rattle.json_doc.specs.Scan.{is_blank}
+use Rattle.json_doc.specs.Exact.{HasValue}
+use Rattle.json_doc.specs.NumberToken.{Number, SpellsNumber, value_of}
+use Rattle.json_doc.specs.TextToken.{BeginsWithText}
 
 -- ws = *( %x20 / %x09 / %x0A / %x0D )
 abbrev pub Ws : List ℕ → List ℕ → Type 0
@@ -19,7 +23,7 @@ Structural c bs rest = (ws : List ℕ) × Ws bs (c ∷ ws) × Ws ws rest
 
 -- string = quotation-mark *char quotation-mark
 abbrev pub String : List ℕ → List ℕ → List ℕ → Type 0
-String bs t rest = AllByRecursion (λ b. IsTrue (is_plain b)) t × (bs ≡ 34 ∷ t ++ 34 ∷ rest)
+String bs t rest = (chars : List ℕ) × (bs ≡ 34 ∷ chars) × BeginsWithText chars t rest
 
 -- the pairs put one after another: a key that comes again keeps its place and takes the last value
 abbrev pub put_all : {T : Type 0} → List (Pair T) → List (Pair T) → List (Pair T)
@@ -29,7 +33,11 @@ put_all ps (m ∷ ms) = put_all (put ps m.key m.value) ms
 mutual
   -- value = false / null / true / object / array / number / string
   pub data Value : ℕ → List ℕ → Doc → List ℕ → Type 0 where
-    null : {n : ℕ} {bs rest : List ℕ} → bs ≡ codes "null" ++ rest → Value n bs doc.Null rest
+    false_name : {n : ℕ} {bs rest : List ℕ} → bs ≡ codes "false" ++ rest → Value n bs (doc.Flag false) rest
+    null_name : {n : ℕ} {bs rest : List ℕ} → bs ≡ codes "null" ++ rest → Value n bs doc.Null rest
+    true_name : {n : ℕ} {bs rest : List ℕ} → bs ≡ codes "true" ++ rest → Value n bs (doc.Flag true) rest
+    -- number, whose exact value is a decimal
+    number : {n : ℕ} {bs spelled rest : List ℕ} {parts : Number} {m : Decimal} → SpellsNumber parts spelled → HasValue m (value_of parts) → bs ≡ spelled ++ rest → Value n bs (doc.Number m) rest
     string : {n : ℕ} {bs t rest : List ℕ} → String bs t rest → Value n bs (doc.Str t) rest
     -- array = begin-array [ value *( value-separator value ) ] end-array
     empty_array : {n : ℕ} {bs ws rest : List ℕ} → n < 100 → Structural 91 bs ws → Structural 93 ws rest → Value n bs (doc.Items []) rest

@@ -27,7 +27,7 @@ unfoldable pub byte_in : ℕ → ℕ → List ℕ → Read ℕ
 byte_in low high [] = Err (Syntax 0)
 byte_in low high (b ∷ bs) = if is_in_range low high b then Ok (b, bs) else Err (Syntax (length (b ∷ bs)))
 
--- A call that answers this, seen by a view, gives what reading gives, unless memory ran out.
+-- A call that takes no memory and answers this, seen by a view, gives what reading gives.
 abbrev pub Gives : {X A : Type 0} → (X → A) → Result X Stop → Result A Stop → Type 0
 Gives view (Ok x) read = read ≡ Ok (view x)
-Gives view (Err stop) read = Stops (λ s. read ≡ Err s) stop
+Gives view (Err stop) read = read ≡ Err stop

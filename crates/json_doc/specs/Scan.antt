@@ -1,6 +1,8 @@
 -- Reading from the left, part by part: each part gives its value and the bytes behind it, or the
 -- first fault, with how many bytes are left there. `n` counts the brackets that are open.
 use Rattle.std.specs.Prelude.{◌≡◌, ℕ, ◌+◌, ◌<◌, ◌≤◌, ◌==◌, ◌||◌, ◌&&◌, nat_lt, codes, Bool, true, false, if◌then◌else◌, List, [], ◌∷◌, ◌++◌, length, Option, None, Some, Result, Ok, Err}
+use Rattle.std.specs.Char.{is_ascii_digit}
+use Rattle.json_doc.specs.declared.decimal.Decimal.{Decimal}
 use Rattle.json_doc.specs.declared.doc.Doc as doc
 use Rattle.json_doc.specs.declared.doc.Doc.{Doc}
 use Rattle.json_doc.specs.declared.pairs.Pair.{Pair}
@@ -8,6 +10,8 @@ use Rattle.json_doc.specs.declared.stop.Stop.{Stop}
 use Rattle.json_doc.specs.declared.stop.Stop.TheVariants.{Syntax, TooDeep}
 use Rattle.json_doc.specs.Keys.{put}
 use Rattle.json_doc.specs.Reading.{Read, ◌>>=◌}
+use Rattle.json_doc.specs.NumberToken.{ReadsNumber}
+use Rattle.json_doc.specs.TextToken.{text_at}
 
 -- the same with another value
 abbrev pub made : {A B : Type 0} → (A → B) → Read A → Read B
@@ -38,22 +42,27 @@ abbrev pub past_word : List ℕ → List ℕ → Result (List ℕ) Stop
 past_word [] bs = Ok bs
 past_word (c ∷ cs) bs = past c bs >>= past_word cs
 
--- a character that stands for itself
-abbrev pub is_plain : ℕ → Bool
-is_plain b = nat_lt 31 b && nat_lt b 127 && (if b == 34 || b == 92 then false else true)
+-- numbers begin with a digit or a minus
+abbrev pub is_number_start : ℕ → Bool
+is_number_start b = b == 45 || is_ascii_digit b
 
--- a text behind its opening quote
-abbrev pub text_at : List ℕ → Read (List ℕ)
-text_at [] = Err (Syntax 0)
-text_at (b ∷ bs) = if b == 34 then Ok ([], bs) else (if is_plain b then made (λ t. b ∷ t) (text_at bs) else Err (Syntax (length (b ∷ bs))))
+abbrev pub begins_number : List ℕ → Bool
+begins_number [] = false
+begins_number (b ∷ bs) = is_number_start b
 
--- a value without brackets
+-- a value that is one word
+abbrev pub named : Doc → List ℕ → List ℕ → Read Doc
+named d word bs = past_word word bs >>= (λ rest. Ok (d, rest))
+
+-- a text, a word, or no value
 abbrev pub scalar_at : List ℕ → Read Doc
 scalar_at [] = Err (Syntax 0)
 scalar_at (b ∷ bs) =
     if b == 34 then made doc.Str (text_at bs) else
-    (if b == 110 then past_word (codes "ull") bs >>= (λ rest. Ok (doc.Null, rest)) else
-    Err (Syntax (length (b ∷ bs))))
+    (if b == 102 then named (doc.Flag false) (codes "alse") bs else
+    (if b == 110 then named doc.Null (codes "ull") bs else
+    (if b == 116 then named (doc.Flag true) (codes "rue") bs else
+    Err (Syntax (length (b ∷ bs))))))
 
 -- a key, its colon, and blanks
 abbrev pub key_at : List ℕ → Read (List ℕ)
@@ -61,7 +70,8 @@ key_at bs = past 34 bs >>= (λ ks. text_at ks >>= (λ key. past 58 (skipped key.
 
 mutual
   pub data Value : ℕ → List ℕ → Read Doc → Type 0 where
-    scalar : {n : ℕ} {bs : List ℕ} {o : Read Doc} → behind 91 bs ≡ None → behind 123 bs ≡ None → scalar_at bs ≡ o → Value n bs o
+    scalar : {n : ℕ} {bs : List ℕ} {o : Read Doc} → behind 91 bs ≡ None → behind 123 bs ≡ None → begins_number bs ≡ false → scalar_at bs ≡ o → Value n bs o
+    number : {n : ℕ} {bs : List ℕ} {o : Read Decimal} → begins_number bs ≡ true → ReadsNumber bs o → Value n bs (made doc.Number o)
     array : {n : ℕ} {bs ws : List ℕ} {o : Read (List Doc)} → behind 91 bs ≡ Some ws → n < 100 → Array (n + 1) (skipped ws) o → Value n bs (made doc.Items o)
     object : {n : ℕ} {bs ws : List ℕ} {o : Read (List (Pair Doc))} → behind 123 bs ≡ Some ws → n < 100 → Object (n + 1) (skipped ws) o → Value n bs (made doc.Fields o)
     deep_array : {n : ℕ} {bs ws : List ℕ} → behind 91 bs ≡ Some ws → 100 ≤ n → Value n bs (Err (TooDeep (length bs)))

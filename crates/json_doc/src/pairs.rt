@@ -1,4 +1,4 @@
-ghost use Rattle.std.specs.Prelude.{◌≡◌, ◌<◌, ◌++◌, ◌∷◌, [], length, slice_set, IsTrue, IfNone, IfSome, OnOk, OnErr};
+ghost use Rattle.std.specs.Prelude.{◌≡◌, ◌<◌, ◌++◌, ◌∷◌, [], length, slice_set, IsTrue, IfNone, IfOk, IfSome, OnOk, OnErr};
 ghost use Rattle.json_doc.specs.Ascii.{is_ascii_text};
 ghost use Rattle.json_doc.specs.Keys.{keys, value_at, IsNew, IsDistinct, put};
 ghost use Rattle.std.specs.Option.{option_copied};
@@ -42,6 +42,24 @@ impl<T> Pairs<T> {
         Pairs {
             items: List::new(alloc),
         }
+    }
+
+    /// No pairs, and room for this many.
+    pub fn with_capacity(alloc: Global, capacity: usize) -> Result<Pairs<T>, OutOfMemory>
+        ensures { IfOk result (λ pairs. pairs ≡ []) }
+    {
+        let items = Vec::with_capacity(alloc, capacity)?;
+        Ok(Pairs {
+            items: List::from_vec(items),
+        })
+    }
+
+    /// The vector of the pairs, given back without taking memory.
+    pub fn into_vec(self) -> Vec<Pair<T>>
+        ensures same { result.items ≡ self }
+        ensures distinct { IsDistinct (keys self) }
+    {
+        self.items.into_vec()
     }
 
     pub fn as_slice(&self) -> &[Pair<T>]

@@ -1,10 +1,22 @@
 ghost use Rattle.std.specs.Prelude.{◌≡◌, ◌≤◌, ◌<◌, length, codes, IsTrue, IfOk, IfErr, Ok, Err};
 ghost use Rattle.std.specs.Option.{option_copied};
 ghost use Rattle.json_doc.specs.Reading.{Gives, Stops};
-ghost use Rattle.json_doc.specs.Scan.{is_blank, is_plain, skipped, behind, past, past_word, text_at, key_at};
+ghost use Rattle.json_doc.specs.Scan.{begins_number, is_blank, skipped, behind, past, past_word, key_at};
 
-use crate::{Stop, Text};
+use crate::stop::Stop;
+use crate::text_token::read_text;
+use crate::Text;
 use std::alloc::Global;
+
+/// Whether a number stands in front.
+pub fn begins_number(bytes: &[u8]) -> bool
+    ensures { result ≡ begins_number bytes.now }
+{
+    match bytes.first() {
+        Some(b) => *b == b'-' || b.is_ascii_digit(),
+        None => false,
+    }
+}
 
 fn is_blank(b: u8) -> bool
     ensures { result ≡ is_blank b }
@@ -60,35 +72,13 @@ pub fn pass_word<'a>(bytes: &'a [u8], word: &[u8]) -> Result<&'a [u8], Stop>
     Ok(rest)
 }
 
-/// The text behind its opening quote, and the bytes behind its closing one.
-pub fn read_plain(alloc: Global, bytes: &[u8]) -> Result<(Text, &[u8]), Stop>
-    ensures { Gives (λ x. (x.0, x.1.now)) result (text_at bytes.now) }
-{
-    let mut text = Text::new(alloc);
-    for (at, b) in bytes.iter().enumerate() {
-        if *b == b'"' {
-            return Ok((text, &bytes[at + 1..]));
-        }
-        if !is_plain(*b) {
-            return Err(Stop::Syntax(bytes.len() - at));
-        }
-        text.push(char::from(*b))?;
-    }
-    Err(Stop::Syntax(0))
-}
-
-fn is_plain(b: u8) -> bool
-    ensures { result ≡ is_plain b }
-{
-    31 < b && b < 127 && b != b'"' && b != b'\\'
-}
-
 /// A key, and the bytes behind its colon and blanks.
 pub fn read_key(alloc: Global, bytes: &[u8]) -> Result<(Text, &[u8]), Stop>
-    ensures { Gives (λ x. (x.0, x.1.now)) result (key_at bytes.now) }
+    ensures read { IfOk result (λ x. key_at bytes.now ≡ Ok (x.0, x.1.now)) }
+    ensures fault { IfErr result (Stops (λ stop. key_at bytes.now ≡ Err stop)) }
 {
     let rest = pass(bytes, b'"')?;
-    let (key, rest) = read_plain(alloc, rest)?;
+    let (key, rest) = read_text(alloc, rest)?;
     let rest = pass(skip_blanks(rest), b':')?;
     Ok((key, skip_blanks(rest)))
 }

@@ -1,9 +1,13 @@
 ghost use Rattle.std.specs.Prelude.{◌≡◌, IfOk, IfErr, Ok, Err};
-ghost use Rattle.json_doc.specs.Reading.{Gives, Stops};
+ghost use Rattle.json_doc.specs.Reading.{Stops};
 ghost use Rattle.json_doc.specs.Scan.{Value, Array, Object, scalar_at};
 
-use crate::read_marks::{pass_word, read_key, read_plain, skip_blanks, strip};
-use crate::{Doc, List, Pairs, Stop};
+use crate::number_token::read_number;
+use crate::read_fields::{Gathered, into_pairs, with_field};
+use crate::read_marks::{begins_number, pass_word, read_key, skip_blanks, strip};
+use crate::stop::Stop;
+use crate::text_token::read_text;
+use crate::{Doc, List, Pairs};
 use std::alloc::Global;
 
 /// How many arrays and objects may stand in one another.
@@ -28,6 +32,10 @@ pub fn read_value(alloc: Global, depth: usize, bytes: &[u8]) -> Result<(Doc, &[u
         }
         let (fields, rest) = read_object(alloc, depth + 1, skip_blanks(rest))?;
         return Ok((Doc::Fields(fields), rest));
+    }
+    if begins_number(bytes) {
+        let (number, rest) = read_number(bytes)?;
+        return Ok((Doc::Number(number), rest));
     }
     read_scalar(alloc, bytes)
 }
@@ -63,18 +71,18 @@ fn read_object(alloc: Global, depth: usize, bytes: &[u8]) -> Result<(Pairs<Doc>,
     ensures read { IfOk result (λ x. Object depth bytes.now (Ok (x.0, x.1.now))) }
     ensures fault { IfErr result (Stops (λ s. Object depth bytes.now (Err s))) }
 {
-    let mut fields = Pairs::new(alloc);
     if let Some(rest) = strip(bytes, b'}') {
-        return Ok((fields, rest));
+        return Ok((Pairs::new(alloc), rest));
     }
+    let mut fields = Gathered::Few(Pairs::new(alloc));
     let mut rest = bytes;
     loop {
         let (key, after) = read_key(alloc, rest)?;
         let (value, after) = read_value(alloc, depth, after)?;
-        fields.put(key, value)?;
+        fields = with_field(alloc, fields, key, value)?;
         let after = skip_blanks(after);
         if let Some(end) = strip(after, b'}') {
-            return Ok((fields, end));
+            return Ok((into_pairs(alloc, fields)?, end));
         }
         let Some(more) = strip(after, b',') else {
             return Err(Stop::Syntax(after.len()));
@@ -83,17 +91,23 @@ fn read_object(alloc: Global, depth: usize, bytes: &[u8]) -> Result<(Pairs<Doc>,
     }
 }
 
-/// The value without brackets that stands in front, and the bytes behind it.
+/// The text or the word that stands in front, and the bytes behind it.
 fn read_scalar(alloc: Global, bytes: &[u8]) -> Result<(Doc, &[u8]), Stop>
-    ensures { Gives (λ x. (x.0, x.1.now)) result (scalar_at bytes.now) }
+    ensures read { IfOk result (λ x. scalar_at bytes.now ≡ Ok (x.0, x.1.now)) }
+    ensures fault { IfErr result (Stops (λ stop. scalar_at bytes.now ≡ Err stop)) }
 {
     if let Some(rest) = strip(bytes, b'"') {
-        let (text, rest) = read_plain(alloc, rest)?;
+        let (text, rest) = read_text(alloc, rest)?;
         return Ok((Doc::Str(text), rest));
     }
+    if let Some(rest) = strip(bytes, b'f') {
+        return Ok((Doc::Flag(false), pass_word(rest, b"alse")?));
+    }
     if let Some(rest) = strip(bytes, b'n') {
-        let rest = pass_word(rest, b"ull")?;
-        return Ok((Doc::Null, rest));
+        return Ok((Doc::Null, pass_word(rest, b"ull")?));
+    }
+    if let Some(rest) = strip(bytes, b't') {
+        return Ok((Doc::Flag(true), pass_word(rest, b"rue")?));
     }
     Err(Stop::Syntax(bytes.len()))
 }

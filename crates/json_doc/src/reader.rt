@@ -1,35 +1,45 @@
-ghost use Rattle.std.specs.Prelude.{◌≡◌, MatchResult, IfOk, IfErr, Ok, Err};
+ghost use Rattle.std.specs.Prelude.{◌≡◌, ◌≤◌, ◌+◌, ◌⊎◌, length, MatchResult, IfOk, IfErr, Ok, Err};
 ghost use Rattle.json_doc.specs.declared.doc.Doc.{Doc};
-ghost use Rattle.json_doc.specs.declared.reader.ReadFault.TheVariants.{OutOfMemory as NoMemory};
+ghost use Rattle.json_doc.specs.declared.read_fault.ReadFault.{ReadFault};
+ghost use Rattle.json_doc.specs.declared.read_fault.ReadFault.TheVariants.{OutOfMemory as NoMemory};
+ghost use Rattle.json_doc.specs.Faults.{HasFault, IsDeadEnd};
 ghost use Rattle.json_doc.specs.Reading.{Stops};
 ghost use Rattle.json_doc.specs.Grammar.{Reads};
 ghost use Rattle.json_doc.specs.Scan.{Scans};
 
 use crate::read_marks::skip_blanks;
 use crate::read_value::read_value;
-use crate::{Doc, Stop};
+use crate::stop::Stop;
+use crate::{Doc, ReadFault};
 use std::alloc::Global;
 
-/// Why bytes were not read.
-#[derive(Clone, Copy, Debug, PartialEq, Eq)]
-pub enum ReadFault {
-    /// The bytes are no document of the part of JSON that is built so far.
-    NotBuilt,
-    OutOfMemory,
-}
-
-/// Reads a JSON text (RFC 8259).
+/// Reads a JSON text (RFC 8259) in UTF-8 without a byte order mark. A key that comes again takes
+/// its last value in its first place.
 pub fn read(alloc: Global, bytes: &[u8]) -> Result<Doc, ReadFault>
+    // What is read is the document of the bytes; where they are one, it is read.
     ensures found { IfOk result (λ d. Reads bytes.now d) }
     ensures only { (d : Doc) → Reads bytes.now d → MatchResult result (λ e. e ≡ d) (λ e. e ≡ NoMemory) }
+
+    // A fault is the first of the bytes; where they have one, it is answered.
+    ensures fault { IfErr result (λ e. (e ≡ NoMemory) ⊎ HasFault bytes.now e) }
+    ensures refused { (f : ReadFault) → HasFault bytes.now f
+        → MatchResult result (λ _. ⊥) (λ e. (e ≡ f) ⊎ (e ≡ NoMemory)) }
+    ensures dead_end { IfErr result (IsDeadEnd bytes.now) }
 {
     match read_whole(alloc, bytes) {
         Ok(doc) => Ok(doc),
+        Err(Stop::Syntax(left)) => Err(ReadFault::Syntax(offset(bytes, left))),
+        Err(Stop::TooDeep(left)) => Err(ReadFault::TooDeep(offset(bytes, left))),
+        Err(Stop::NumberTooWide(left)) => Err(ReadFault::NumberTooWide(offset(bytes, left))),
         Err(Stop::OutOfMemory) => Err(ReadFault::OutOfMemory),
-        Err(Stop::Syntax(_)) => Err(ReadFault::NotBuilt),
-        Err(Stop::TooDeep(_)) => Err(ReadFault::NotBuilt),
-        Err(Stop::NumberTooWide(_)) => Err(ReadFault::NotBuilt),
     }
+}
+
+fn offset(bytes: &[u8], left: usize) -> u64
+    requires { left ≤ length bytes.now }
+    ensures { result + left ≡ length bytes.now }
+{
+    (bytes.len() - left) as u64
 }
 
 fn read_whole(alloc: Global, bytes: &[u8]) -> Result<Doc, Stop>
@@ -42,30 +52,5 @@ fn read_whole(alloc: Global, bytes: &[u8]) -> Result<Doc, Stop>
         Ok(doc)
     } else {
         Err(Stop::Syntax(rest.len()))
-    }
-}
-
-#[cfg(test)]
-mod tests {
-    use super::*;
-    use std::test::Fail;
-
-    #[test]
-    fn reads_what_is_built(rt: HostRuntime) -> Result<(), Fail> {
-        let rows = [
-            (r#" [ "a" , {"b":null} ] "#, true),
-            ("[1]", false),
-            (r#"{"a":"x","a":[]}"#, true),
-            ("[\"\\n\"]", false),
-            ("[null,]", false),
-        ];
-        for (text, is_read) in rows {
-            assert_eq!(rt;
-                read(rt.alloc(), text.as_bytes()).is_ok(),
-                is_read,
-                "at {text}"
-            );
-        }
-        Ok(())
     }
 }

@@ -1,6 +1,7 @@
 use Rattle.std.proofs.Common.{◌+◌, ◌-◌, ◌*◌, List, [], length}
 use Rattle.json_doc.specs.declared.doc.Doc.{Doc}
 use Rattle.json_doc.specs.declared.pairs.Pair.{Pair}
+use Rattle.json_doc.specs.Gathered.{kept}
 use Rattle.json_doc.specs.Reading.{Read}
 use Rattle.json_doc.specs.Scan.{Elements, Members}
 use Rattle.json_doc.proofs.read_value.+read.Given as goal
@@ -25,7 +26,7 @@ decreases-read_array-loop-items l = length l.rest
 -- what comes behind the fields so far comes of the whole
 abbrev pub invariant-read_object-loop-fields : goal.invariant-read_object-loop-fields
 invariant-read_object-loop-fields l =
-    (o : Read (List (Pair Doc))) → Members l.fn.depth l.fields l.rest o → Members l.fn.depth [] l.fn.bytes o
+    (o : Read (List (Pair Doc))) → Members l.fn.depth (kept l.fields) l.rest o → Members l.fn.depth [] l.fn.bytes o
 
 abbrev pub decreases-read_object-loop-fields : goal.decreases-read_object-loop-fields
 decreases-read_object-loop-fields l = length l.rest
