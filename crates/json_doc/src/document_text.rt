@@ -71,8 +71,22 @@ mod tests {
         Ok(Doc::Fields(fields))
     }
 
+    fn accents(alloc: Global) -> Result<Doc, OutOfMemory> {
+        let mut fields = Pairs::new(alloc);
+        let accent = Text::from_str(alloc, "é")?;
+        fields.push_new(Text::from_str(alloc, "a")?, Doc::Str(accent))?;
+        let second = Text::from_str(alloc, "b")?;
+        fields.push_new(second, Doc::Number(Decimal::of(2)))?;
+        Ok(Doc::Fields(fields))
+    }
+
     #[test]
     fn lays_out(rt: HostRuntime) -> Result<(), Fail> {
+        let doc = accents(rt.alloc())?;
+        assert_eq!(rt;
+            compact(rt.alloc(), &doc)?.as_str(),
+            "{\"a\": \"\\u00e9\", \"b\": 2}"
+        );
         let doc = titles(rt.alloc())?;
         let same = crate::copy(rt.alloc(), &doc)?;
         assert_eq!(rt;
