@@ -230,3 +230,83 @@ pub(crate) fn read_number(bytes: &[u8]) -> Result<(Decimal, &[u8]), Stop>
         None => Err(Stop::NumberTooWide(bytes.len())),
     }
 }
+
+#[cfg(test)]
+mod tests {
+    use super::*;
+
+    // The values are those of Python's decimal in least form.
+    #[test]
+    fn reads_numbers(rt: HostRuntime) {
+        let rows: [(&[u8], bool, u128, u8, usize); 14] = [
+            (b"0", false, 0, 0, 0),
+            (b"-0", false, 0, 0, 0),
+            (b"01", false, 0, 0, 1),
+            (b"1.50]", false, 15, 1, 1),
+            (b"-12.5e+1,", true, 125, 0, 1),
+            (b"123.456e2x", false, 123_456, 1, 1),
+            (
+                b"1E35",
+                false,
+                100_000_000_000_000_000_000_000_000_000_000_000,
+                0,
+                0,
+            ),
+            (b"1E-30", false, 1, 30, 0),
+            (b"10E-31", false, 1, 30, 0),
+            (b"0e99999999999999999999999", false, 0, 0, 0),
+            (b"-0.0e-5", false, 0, 0, 0),
+            (
+                b"10000000000000000000000000000000000000000e-40",
+                false,
+                1,
+                0,
+                0,
+            ),
+            (b"0.000000000000000000000000000000000001e6", false, 1, 30, 0),
+            (
+                b"12345678901234567890.1234567890123456",
+                false,
+                123_456_789_012_345_678_901_234_567_890_123_456,
+                16,
+                0,
+            ),
+        ];
+        for (bytes, is_negative, magnitude, scale, behind) in rows {
+            match read_number(bytes) {
+                Ok((decimal, rest)) => {
+                    assert_eq!(rt; decimal.is_negative, is_negative, "{bytes:?}");
+                    assert_eq!(rt; decimal.magnitude, magnitude, "{bytes:?}");
+                    assert_eq!(rt; decimal.scale, scale, "{bytes:?}");
+                    assert_eq!(rt; rest.len(), behind, "{bytes:?}");
+                }
+                Err(stop) => panic!(rt; "{bytes:?}: {stop:?}"),
+            }
+        }
+    }
+
+    #[test]
+    fn refuses_numbers(rt: HostRuntime) {
+        let rows: [(&[u8], Stop); 10] = [
+            (b"-", Stop::Syntax(0)),
+            (b"-a", Stop::Syntax(1)),
+            (b"1.", Stop::Syntax(0)),
+            (b"1.x", Stop::Syntax(1)),
+            (b"1e+", Stop::Syntax(0)),
+            (b"1E-x", Stop::Syntax(1)),
+            (b"1E36x", Stop::NumberTooWide(5)),
+            (b"1E-31", Stop::NumberTooWide(5)),
+            (b"1E999999999999999999999999999", Stop::NumberTooWide(29)),
+            (
+                b"1111111111111111111111111111111111111",
+                Stop::NumberTooWide(37),
+            ),
+        ];
+        for (bytes, want) in rows {
+            match read_number(bytes) {
+                Ok(_) => panic!(rt; "read {bytes:?}"),
+                Err(stop) => assert_eq!(rt; stop, want, "{bytes:?}"),
+            }
+        }
+    }
+}

@@ -343,3 +343,63 @@ pub(crate) fn read_text(alloc: Global, bytes: &[u8]) -> Result<(Text, &[u8]), St
         rest = others;
     }
 }
+
+#[cfg(test)]
+mod tests {
+    use super::*;
+    use std::test::Fail;
+
+    // The texts are those that Python's json reads; the faults are by hand from the grammar.
+    #[test]
+    fn reads_texts(rt: HostRuntime) -> Result<(), Fail> {
+        let rows: [(&[u8], &str, usize); 7] = [
+            (b"\"", "", 0),
+            (b"plain\"x", "plain", 1),
+            (
+                b"a\\n\\\"\\\\\\/\\b\\f\\r\\tz\"",
+                "a\n\"\\/\u{8}\u{c}\r\tz",
+                0,
+            ),
+            (b"\\u00e9\\u0041\"", "\u{e9}A", 0),
+            (b"\\uD83D\\ude00!\"", "\u{1f600}!", 0),
+            (b"\xc3\xa9\xf0\x9f\x98\x80\",", "\u{e9}\u{1f600}", 1),
+            (b"\\u0000\\uFFFF\"", "\u{0}\u{ffff}", 0),
+        ];
+        for (bytes, want, behind) in rows {
+            match read_text(rt.alloc(), bytes) {
+                Ok((text, rest)) => {
+                    assert_eq!(rt; text.as_str(), want);
+                    assert_eq!(rt; rest.len(), behind, "behind {want}");
+                }
+                Err(stop) => panic!(rt; "{want}: {stop:?}"),
+            }
+        }
+        Ok(())
+    }
+
+    #[test]
+    fn refuses_texts(rt: HostRuntime) {
+        let rows: [(&[u8], usize); 14] = [
+            (b"open", 0),
+            (b"a\x01\"", 2),
+            (b"\\x\"", 2),
+            (b"\\u12g4\"", 3),
+            (b"\\udc00\"", 4),
+            (b"\\ud800x\"", 2),
+            (b"\\ud800\\n\"", 2),
+            (b"\\ud800\\ud800\"", 4),
+            (b"\\ud800\\ue000\"", 5),
+            (b"a\xff\"", 2),
+            (b"a\xc3\"", 1),
+            (b"\xe0\x80\x80\"", 3),
+            (b"\xed\xa0\x80\"", 3),
+            (b"\xf0\x9f\x98", 0),
+        ];
+        for (bytes, left) in rows {
+            match read_text(rt.alloc(), bytes) {
+                Ok(_) => panic!(rt; "read {bytes:?}"),
+                Err(stop) => assert_eq!(rt; stop, Stop::Syntax(left), "{bytes:?}"),
+            }
+        }
+    }
+}
