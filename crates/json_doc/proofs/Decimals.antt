@@ -1,11 +1,10 @@
 -- Decimals and the values that they have: each value has one decimal at most.
-use Rattle.std.proofs.Common.{◌≡◌, ◌≢◌, ℕ, zero, suc, ◌+◌, ◌-◌, ◌*◌, ◌/◌, ◌%◌, ◌^◌, ◌<◌, ◌≤◌, Bool, true, false, ◌&&◌, nat_lt, Option, Some, None, IfSome, IfNone, ◌⊎◌, inl, inr, ⊎_elim, refl, sym, ap, ◌∙◌, subst, arith}
-use Rattle.std.proofs.Math.Nat.{pow-suc, mul_assoc, mul_right_comm, mul-pos, eq_of_mul-eq-mul_right, pow-le-pow_right, mul-le-mul}
-use Rattle.std.proofs.lemmas.Bool.{cases_lt, cases_eq, lt-ltb, le-ltb}
+use Rattle.std.proofs.Common.{◌≡◌, ◌≢◌, ℕ, zero, suc, ◌+◌, ◌*◌, ◌/◌, ◌%◌, ◌^◌, ◌<◌, ◌≤◌, Bool, true, false, ◌&&◌, nat_lt, Option, Some, None, IfSome, IfNone, inl, inr, refl, sym, ap, ◌∙◌, subst, arith}
+use Rattle.std.proofs.Math.Nat.{pow-suc, mul_assoc, mul-pos, eq_of_mul-eq-mul_right}
+use Rattle.std.proofs.lemmas.Bool.{cases_lt, cases_eq, lt-ltb}
 use Rattle.json_doc.specs.declared.decimal.Decimal.{Decimal}
 use Rattle.json_doc.specs.contracts.decimal.Decimal as laws
 use Rattle.json_doc.specs.Exact.{Exact, HasValue, HasNoDecimal, IsForm, IsTooWide}
-use Rattle.json_doc.specs.Least.{IsLeast}
 use Rattle.json_doc.proofs.LeastForms.{ten-pos, times-pow-add, times-pow-none, no_places, least_is, is_least, trimmed-pos}
 
 made_same : {V D : Type 0} (G : V → Type 0) → ((v : V) → IsProp (G v)) → (make : (v : V) → G v → D) → (v w : V) → v ≡ w → (g : G v) (h : G w) → make v g ≡ make w h

@@ -1,16 +1,15 @@
 -- Characters behind a backslash: what was read is spelled there, and what is spelled is read.
-use Rattle.std.proofs.Common.{◌≡◌, ◌≢◌, ℕ, ◌+◌, ◌-◌, ◌*◌, ◌<◌, ◌≤◌, ◌==◌, Bool, true, false, cond, ◌⊎◌, inl, inr, ⊎_elim, IsTrue, List, [], ◌∷◌, ◌++◌, length, drop, slice_index, Option, Some, None, Result, Ok, Err, ok_or, refl, sym, ap, ◌∙◌, subst, arith, append_assoc}
-use Rattle.std.specs.Char.{IsScalar, digit_value}
+use Rattle.std.proofs.Common.{◌≡◌, ℕ, ◌+◌, ◌*◌, ◌<◌, ◌≤◌, ◌==◌, Bool, true, false, cond, ◌⊎◌, inl, inr, List, [], ◌∷◌, ◌++◌, Option, Some, None, Ok, ok_or, refl, sym, ap, ◌∙◌, subst, arith, append_assoc}
+use Rattle.std.specs.Char.{IsScalar}
 use Rattle.std.specs.Char.Utf16.{is_high_surrogate, is_low_surrogate, surrogate_pair_char}
-use Rattle.std.specs.Str.Parse.{digits_value, AllDigits}
-use Rattle.std.proofs.Math.Utf8.{low_scalar, scalar_cases}
-use Rattle.std.proofs.lemmas.Bool.{and_parts, and_from, and_cases, ltb-true, ltb-false, leb-true, leb-false, le-leb, lt-ltb, le-ltb, cases_lt, cases_order, eqb-true, eqb-false, ne_eqb}
+use Rattle.std.specs.Str.Parse.{digits_value}
+use Rattle.std.proofs.Math.Utf8.{low_scalar}
+use Rattle.std.proofs.lemmas.Bool.{and_parts, and_from, ltb-true, leb-true, le-leb, lt-ltb, cases_lt, cases_order, eqb-true}
 use Rattle.std.proofs.lemmas.Bool.Decides.{nat_tests}
 use Rattle.json_doc.specs.declared.stop.Stop.{Stop}
-use Rattle.json_doc.specs.declared.stop.Stop.TheVariants.{Syntax}
 use Rattle.json_doc.specs.Reading.{◌>>=◌, byte_in}
-use Rattle.json_doc.specs.TextToken.{hex_in, low_half_at, unit_at, unicode_at, named_char, escape_at, IsUnit, SpellsChar, unescaped, named, unit, pair}
-use Rattle.json_doc.proofs.TokenParts.{chosen, ok_same, bind_then, in_range, IsHexIn, byte_in_ok, byte_in_from, hex_in_ok, hex_in_from}
+use Rattle.json_doc.specs.TextToken.{low_half_at, unit_at, unicode_at, named_char, escape_at, IsUnit, SpellsChar, unescaped, named, unit, pair}
+use Rattle.json_doc.proofs.TokenParts.{chosen, ok_same, bind_then, IsHexIn, byte_in_ok, hex_in_ok}
 use Rattle.json_doc.proofs.Utf8Parts.{high_scalar}
 
 -- four digits in front and their value

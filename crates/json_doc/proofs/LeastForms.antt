@@ -1,6 +1,6 @@
 -- The least form of a decimal fraction: the one decimal with a value, and when there is none.
-use Rattle.std.proofs.Common.{◌≡◌, ◌≢◌, ℕ, zero, suc, ◌+◌, ◌-◌, ◌*◌, ◌/◌, ◌%◌, ◌^◌, ◌<◌, ◌≤◌, Bool, true, false, ◌&&◌, nat_lt, ◌⊎◌, inl, inr, refl, sym, ap, ◌∙◌, subst, arith}
-use Rattle.std.proofs.Math.Nat.{pow-suc, pow-zero, mul_assoc, mul_comm, mul_right_comm, mul-one, mul-mod_left, eq_of_mul-eq-mul_right, one-le-pow, pow-le-pow_right, mul-le-mul_right}
+use Rattle.std.proofs.Common.{◌≡◌, ◌≢◌, ℕ, zero, suc, ◌+◌, ◌-◌, ◌*◌, ◌/◌, ◌%◌, ◌^◌, ◌<◌, ◌≤◌, inl, inr, refl, sym, ap, ◌∙◌, arith}
+use Rattle.std.proofs.Math.Nat.{pow-suc, mul_assoc, mul_right_comm, mul-one, mul-mod_left, eq_of_mul-eq-mul_right, one-le-pow, pow-le-pow_right, mul-le-mul_right}
 use Rattle.std.proofs.lemmas.Nat.{pow-add}
 use Rattle.std.proofs.lemmas.Bool.{cases_lt, cases_eq}
 use Rattle.json_doc.specs.Least.{IsLeast}

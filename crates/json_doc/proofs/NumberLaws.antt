@@ -1,16 +1,16 @@
 -- Reading a number as a decimal has one answer for any bytes.
-use Rattle.std.proofs.Common.{◌≡◌, ◌≢◌, ℕ, zero, suc, ◌+◌, ◌-◌, ◌*◌, ◌%◌, ◌^◌, ◌<◌, ◌≤◌, Bool, true, false, ◌⊎◌, inl, inr, List, length, Result, Ok, Err, MatchResult, refl, sym, ap, ◌∙◌, subst, arith}
+use Rattle.std.proofs.Common.{◌≡◌, ◌≢◌, ℕ, ◌+◌, ◌-◌, ◌*◌, ◌%◌, ◌^◌, ◌<◌, ◌≤◌, Bool, false, ◌⊎◌, inl, inr, List, length, Ok, Err, MatchResult, refl, sym, ap, ◌∙◌, subst, arith}
 use Rattle.std.proofs.Math.Nat.{mul-pos}
 use Rattle.std.proofs.lemmas.Bool.{cases_lt}
 use Rattle.json_doc.specs.declared.decimal.Decimal.{Decimal}
 use Rattle.json_doc.specs.declared.stop.Stop.{Stop}
 use Rattle.json_doc.specs.declared.stop.Stop.TheVariants.{NumberTooWide}
-use Rattle.json_doc.specs.Exact.{Exact, HasValue, HasNoDecimal, IsForm}
+use Rattle.json_doc.specs.Exact.{Exact, HasValue, HasNoDecimal}
 use Rattle.json_doc.specs.Reading.{Read}
 use Rattle.json_doc.specs.NumberToken.{Number, value_of, number_at, BeginsWithNumber, ReadsNumber, read, too_wide, broken}
 use Rattle.json_doc.proofs.TokenParts.{ok_same}
 use Rattle.json_doc.proofs.LeastForms.{ten-pos, trimmed-pos, is_least}
-use Rattle.json_doc.proofs.Decimals.{Trims, trims, value_of_form, IsZero, value_of_zero, no_decimal, one_decimal}
+use Rattle.json_doc.proofs.Decimals.{trims, value_of_form, value_of_zero, no_decimal, one_decimal}
 use Rattle.json_doc.proofs.WholeNumbers.{number_at-begins, number_at-front}
 
 -- Whether a value has a decimal.

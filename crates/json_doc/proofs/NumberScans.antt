@@ -1,17 +1,14 @@
 -- Reading the parts of a number gives exactly what is spelled in front.
-use Rattle.std.proofs.Common.{◌≡◌, ◌≢◌, ℕ, zero, suc, ◌+◌, ◌-◌, ◌<◌, ◌≤◌, ◌==◌, ◌||◌, Bool, true, false, cond, ◌⊎◌, inl, inr, ⊎_elim, List, [], ◌∷◌, ◌++◌, length, take, drop, slice_index, get_or, Result, Ok, Err, MatchBool, refl, sym, ap, ◌∙◌, subst, arith, append_assoc, append-nil, length-append, ne_eqb, eq-eqb}
+use Rattle.std.proofs.Common.{◌≡◌, ◌≢◌, ℕ, suc, ◌<◌, ◌==◌, Bool, true, false, ◌⊎◌, inl, inr, ⊎_elim, List, [], ◌∷◌, ◌++◌, length, take, drop, slice_index, Ok, refl, sym, ap, ◌∙◌, subst, arith, append_assoc, length-append}
 use Rattle.std.specs.Char.{is_ascii_digit, digit_value}
 use Rattle.std.specs.List.{prefix_len}
 use Rattle.std.specs.Str.Parse.{AllDigits}
 use Rattle.std.proofs.lemmas.Bool.{eqb-true, eqb-false, and_parts, leb-true, le-leb, and_from, or_cases, cases_Bool}
 use Rattle.std.proofs.lemmas.List.{take-append-drop, length-take}
-use Rattle.std.proofs.lemmas.List.Sums.{prefix_len-le-length, prefix_len_stops, prefix_len_is}
+use Rattle.std.proofs.lemmas.List.Sums.{prefix_len-le-length}
 use Rattle.std.proofs.lemmas.Str.{digit_value_digit}
 use Rattle.std.proofs.lemmas.Str.Parse.{digit_from_value}
-use Rattle.json_doc.specs.declared.stop.Stop.{Stop}
-use Rattle.json_doc.specs.declared.stop.Stop.TheVariants.{Syntax}
-use Rattle.json_doc.specs.Reading.{Read, ◌>>=◌}
-use Rattle.json_doc.specs.NumberToken.{Exponent, Number, IsDigits, IsInt, minus, SpellsFrac, no_frac, with_frac, IsSign, is_exp_mark, SpellsExp, no_exp, with_exp, SpellsNumber, digits_at, int_at, frac_at, sign_at, no_exponent, exp_at, minus_at, number_at, HasDigits}
+use Rattle.json_doc.specs.NumberToken.{Exponent, Number, IsDigits, IsInt, minus, SpellsFrac, no_frac, with_frac, IsSign, is_exp_mark, SpellsExp, no_exp, with_exp, SpellsNumber, digits_at, int_at, frac_at, sign_at, exp_at, minus_at, number_at, HasDigits}
 use Rattle.json_doc.proofs.TokenParts.{chosen, ok_same, bind_then}
 use Rattle.json_doc.proofs.TextScans.{first_is}
 

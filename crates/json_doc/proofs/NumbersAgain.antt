@@ -1,12 +1,11 @@
 -- A number that is spelled in front is read, if nothing behind it would go on with it.
-use Rattle.std.proofs.Common.{◌≡◌, ◌≢◌, ℕ, zero, suc, ◌+◌, ◌-◌, ◌<◌, ◌≤◌, ◌==◌, ◌||◌, Bool, true, false, cond, ◌⊎◌, inl, inr, ⊎_elim, List, [], ◌∷◌, ◌++◌, length, take, drop, slice_index, Result, Ok, Err, MatchBool, refl, sym, ap, ◌∙◌, subst, arith, append_assoc, append-nil, length-append, ne_eqb, eq-eqb}
+use Rattle.std.proofs.Common.{◌≡◌, ◌≢◌, ℕ, ◌<◌, Bool, true, false, ◌⊎◌, inl, inr, ⊎_elim, List, [], ◌∷◌, ◌++◌, length, slice_index, Ok, refl, sym, ap, ◌∙◌, subst, arith, append_assoc, ne_eqb}
 use Rattle.std.specs.Char.{is_ascii_digit, digit_value}
 use Rattle.std.specs.List.{prefix_len}
 use Rattle.std.specs.Str.Parse.{AllDigits}
 use Rattle.std.proofs.Math.Seq.{take-append_seam, drop-append_seam}
-use Rattle.std.proofs.lemmas.Bool.{eqb-true, eqb-false, cases_eq, cases_Bool, or_cases, or_from, or_left, or_right, and_left, and_right, lt-leb}
+use Rattle.std.proofs.lemmas.Bool.{eqb-true, cases_eq, or_cases, and_right, lt-leb}
 use Rattle.std.proofs.lemmas.Str.Parse.{digit_from_value}
-use Rattle.json_doc.specs.Reading.{Read, ◌>>=◌}
 use Rattle.json_doc.specs.NumberToken.{Exponent, Number, IsDigits, IsInt, minus, SpellsFrac, no_frac, with_frac, IsSign, is_exp_mark, SpellsExp, no_exp, with_exp, SpellsNumber, digits_at, int_at, frac_at, sign_at, no_exponent, exp_at, minus_at, number_at}
 use Rattle.json_doc.proofs.NumberScans.{Ends, Follows, digit_is, first_of_digits}
 

@@ -1,12 +1,9 @@
 -- Reading a text gives exactly what is spelled in front.
-use Rattle.std.proofs.Common.{◌≡◌, ◌≢◌, ℕ, zero, suc, ◌+◌, ◌*◌, ◌<◌, ◌≤◌, ◌==◌, true, false, cond, ◌⊎◌, inl, inr, List, [], ◌∷◌, ◌++◌, length, drop, slice_index, Result, Ok, Err, refl, sym, ap, ◌∙◌, subst, arith, append_assoc, length-append, ne_eqb, eq-eqb}
-use Rattle.std.specs.Char.{IsScalar, len_utf8}
+use Rattle.std.proofs.Common.{◌≡◌, ◌≢◌, ℕ, zero, suc, ◌<◌, ◌≤◌, ◌==◌, inl, inr, List, [], ◌∷◌, ◌++◌, length, drop, slice_index, Ok, refl, sym, ap, ◌∙◌, subst, arith, append_assoc, length-append, ne_eqb}
+use Rattle.std.specs.Char.{IsScalar}
 use Rattle.std.proofs.Math.Utf8.{encode}
 use Rattle.std.proofs.lemmas.Bool.{eqb-true, eqb-false}
 use Rattle.std.proofs.lemmas.Str.{byte_from_char, char_from_byte, length-encode, len_utf8_bounds}
-use Rattle.json_doc.specs.declared.stop.Stop.{Stop}
-use Rattle.json_doc.specs.declared.stop.Stop.TheVariants.{Syntax}
-use Rattle.json_doc.specs.Reading.{Read, ◌>>=◌}
 use Rattle.json_doc.specs.TextToken.{SpellsChar, unescaped, named, unit, pair, Spells, BeginsWithText, utf8_at, escape_at, char_at, text_within, text_at, with_front}
 use Rattle.json_doc.proofs.TokenParts.{chosen, ok_same, bind_then}
 use Rattle.json_doc.proofs.Utf8Parts.{utf8_at_ok, utf8_at-encode}

@@ -1,17 +1,16 @@
 -- How reading a text goes on, character by character and run by run.
-use Rattle.std.proofs.Common.{◌≡◌, ◌≢◌, ℕ, zero, suc, ◌+◌, ◌<◌, ◌≤◌, ◌==◌, Bool, true, false, cond, inl, inr, List, [], ◌∷◌, ◌++◌, length, drop, take, slice_index, get_or, Result, Ok, Err, refl, sym, ap, ◌∙◌, subst, arith, append_assoc, append-nil, length-append, ne_eqb}
-use Rattle.std.specs.Char.{IsScalar}
+use Rattle.std.proofs.Common.{◌≡◌, ◌≢◌, ℕ, zero, suc, ◌<◌, ◌≤◌, ◌==◌, true, false, cond, inl, inr, List, [], ◌∷◌, ◌++◌, length, drop, take, slice_index, get_or, Result, Ok, Err, refl, sym, ap, ◌∙◌, subst, arith, append_assoc, append-nil, length-append, ne_eqb}
 use Rattle.std.specs.Str.{IsUtf8, IsValidUpTo, chars, all_scalars}
 use Rattle.std.specs.Prelude.{encode_utf8_all}
 use Rattle.std.proofs.Math.Utf8.{encode}
-use Rattle.std.proofs.lemmas.Bool.{eqb-true, eqb-false, and_parts, or_parts, ltb-true, ltb-false, cases_lt}
+use Rattle.std.proofs.lemmas.Bool.{eqb-false, and_parts, or_parts, ltb-false, cases_lt}
 use Rattle.std.proofs.lemmas.List.{take-append-drop, take-take, length-take}
 use Rattle.std.proofs.lemmas.Str.{encode_ascii, chars-encodes}
 use Rattle.json_doc.specs.declared.stop.Stop.{Stop}
 use Rattle.json_doc.specs.declared.stop.Stop.TheVariants.{Syntax}
 use Rattle.json_doc.specs.Reading.{Read, ◌>>=◌}
-use Rattle.json_doc.specs.TextToken.{utf8_at, escape_at, char_at, text_within, text_at, with_front, ends_run}
-use Rattle.json_doc.proofs.TokenParts.{chosen, bind_then}
+use Rattle.json_doc.specs.TextToken.{utf8_at, char_at, text_within, text_at, with_front, ends_run}
+use Rattle.json_doc.proofs.TokenParts.{chosen}
 use Rattle.json_doc.proofs.Utf8Parts.{utf8_at_ok}
 use Rattle.json_doc.proofs.Escapes.{escape_at_ok}
 use Rattle.json_doc.proofs.TextScans.{length-encode-pos, plain_is_read}

@@ -1,5 +1,5 @@
 -- A character that was read in UTF-8 is the one whose bytes stand there.
-use Rattle.std.proofs.Common.{◌≡◌, ℕ, ◌+◌, ◌-◌, ◌*◌, ◌/◌, ◌%◌, ◌<◌, ◌≤◌, ◌⊎◌, inl, inr, true, List, [], ◌∷◌, ◌++◌, Result, Ok, Err, refl, sym, ap, ◌∙◌, subst, arith, ⊎_elim}
+use Rattle.std.proofs.Common.{◌≡◌, ℕ, ◌+◌, ◌-◌, ◌*◌, ◌/◌, ◌%◌, ◌<◌, ◌≤◌, inl, inr, List, [], ◌∷◌, ◌++◌, Ok, refl, ◌∙◌, subst, arith, ⊎_elim}
 use Rattle.std.specs.Char.{IsScalar}
 use Rattle.std.specs.Int.{is_in_range}
 use Rattle.std.specs.Str.Lossy.{second_byte_min, second_byte_max}
@@ -7,8 +7,7 @@ use Rattle.std.proofs.Math.Utf8.{encode, low_scalar, scalar_cases}
 use Rattle.std.proofs.lemmas.Bool.{cases_eq, cases_lt, cases_order, lt-ltb, le-ltb}
 use Rattle.std.proofs.lemmas.Bool.Decides.{nat_tests}
 use Rattle.std.proofs.lemmas.Str.{encode_ascii}
-use Rattle.json_doc.specs.declared.stop.Stop.TheVariants.{Syntax}
-use Rattle.json_doc.specs.Reading.{byte_in, ◌>>=◌}
+use Rattle.json_doc.specs.Reading.{byte_in}
 use Rattle.json_doc.specs.TextToken.{two_at, three_at, four_at, utf8_at}
 use Rattle.json_doc.proofs.TokenParts.{chosen, ok_same, bind_ok, in_range, within, above, below, byte_in_ok, byte_in_from}
 use Rattle.json_doc.proofs.Utf8Bytes.{encode_two, encode_three, encode_four}

@@ -1,11 +1,9 @@
 -- Reading a number takes as much as a number can have, and no less.
-use Rattle.std.proofs.Common.{◌≡◌, ◌≢◌, ℕ, zero, suc, ◌+◌, ◌<◌, ◌≤◌, Bool, true, false, ◌⊎◌, inl, inr, ⊎_elim, List, [], ◌∷◌, ◌++◌, length, drop, slice_index, Result, Ok, Err, refl, sym, ap, ◌∙◌, subst, arith, append_assoc, append-nil, length-append}
+use Rattle.std.proofs.Common.{◌≡◌, ◌≢◌, ℕ, ◌<◌, Bool, true, false, ◌⊎◌, inl, inr, List, [], ◌∷◌, ◌++◌, length, drop, slice_index, Ok, refl, sym, ap, ◌∙◌, subst, arith, append_assoc, append-nil, length-append}
 use Rattle.std.specs.Char.{is_ascii_digit}
-use Rattle.std.specs.Str.Parse.{AllDigits}
 use Rattle.std.proofs.lemmas.Bool.{cases_Bool, cases_eq, and_parts, leb-true}
 use Rattle.std.proofs.lemmas.Int.Digits.{digits_push}
-use Rattle.json_doc.specs.Reading.{Read}
-use Rattle.json_doc.specs.NumberToken.{Exponent, Number, IsDigits, IsInt, minus, SpellsFrac, no_frac, with_frac, IsSign, is_exp_mark, SpellsExp, no_exp, with_exp, SpellsNumber, IsWhole, BeginsWithNumber, no_exponent, number_at}
+use Rattle.json_doc.specs.NumberToken.{Exponent, Number, IsDigits, IsInt, minus, SpellsFrac, no_frac, with_frac, is_exp_mark, SpellsExp, no_exp, with_exp, SpellsNumber, IsWhole, BeginsWithNumber, no_exponent, number_at}
 use Rattle.json_doc.proofs.TokenParts.{ok_same}
 use Rattle.json_doc.proofs.TextScans.{first_is}
 use Rattle.json_doc.proofs.NumberScans.{Ends, Follows, is_digit, marks, number_at_ok}

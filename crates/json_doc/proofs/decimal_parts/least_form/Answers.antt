@@ -1,4 +1,4 @@
-use Rattle.std.proofs.Common.{◌≡◌, ◌*◌, ◌-◌, ◌^◌, ◌<◌, inl, sym, ap, ◌∙◌, subst, arith}
+use Rattle.std.proofs.Common.{◌*◌, ◌-◌, ◌<◌, inl, sym, ap, ◌∙◌, subst, arith}
 use Rattle.std.proofs.Math.Nat.{mul-pos}
 use Rattle.json_doc.proofs.LeastForms.{many_places, small_power, ten-pos, trimmed-pos}
 use Rattle.json_doc.proofs.decimal_parts.least_form.Goals as goal

@@ -1,4 +1,4 @@
-use Rattle.std.proofs.Common.{◌≡◌, ◌*◌, ◌/◌, ◌+◌, ◌^◌, ◌<◌, arith}
+use Rattle.std.proofs.Common.{◌/◌, ◌+◌, ◌<◌, arith}
 use Rattle.json_doc.proofs.LeastForms.{few_zeros, zero_more}
 use Rattle.json_doc.proofs.decimal_parts.trimmed.Goals as goal
 

@@ -1,4 +1,4 @@
-use Rattle.std.proofs.Common.{◌≡◌, ◌*◌, ◌+◌, sym, subst, arith}
+use Rattle.std.proofs.Common.{sym, subst, arith}
 use Rattle.std.proofs.lemmas.Str.Parse.{digit_at}
 use Rattle.json_doc.specs.Trimmed.{IsCapped}
 use Rattle.json_doc.proofs.DigitLists.{after-more, capped_more}

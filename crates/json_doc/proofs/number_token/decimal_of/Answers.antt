@@ -1,9 +1,7 @@
-use Rattle.std.proofs.Common.{◌≡◌, ℕ, ◌+◌, ◌*◌, ◌^◌, ◌<◌, ◌⊎◌, inl, inr, Bool, true, false, cond, length, ◌++◌, refl, sym, ap, ◌∙◌, arith}
+use Rattle.std.proofs.Common.{◌≡◌, ℕ, ◌+◌, ◌*◌, ◌^◌, ◌⊎◌, inl, inr, Bool, true, false, cond, length, ◌++◌, refl, sym, ap, ◌∙◌, arith}
 use Rattle.std.specs.Str.Parse.{digits_value}
-use Rattle.json_doc.specs.declared.decimal.Decimal.{Decimal}
 use Rattle.json_doc.specs.NumberParts.{exponent_of, number_of}
-use Rattle.json_doc.specs.NumberToken.{Exponent, raised, lowered, value_of}
-use Rattle.json_doc.specs.Exact.{exact, HasValue}
+use Rattle.json_doc.specs.NumberToken.{raised, lowered, value_of}
 use Rattle.json_doc.proofs.CappedValues.{Alike, value_to, value_from, capped_alike, some_value, none_value, long_none}
 use Rattle.json_doc.proofs.DigitLists.{digits_are, long_int, long_frac}
 use Rattle.json_doc.proofs.number_token.decimal_of.Goals as goal

@@ -1,6 +1,5 @@
-use Rattle.std.proofs.Common.{◌≡◌}
 use Rattle.std.proofs.lemmas.Result.{err_from_is_err_and}
-use Rattle.json_doc.specs.NumberToken.{ReadsNumber, read, too_wide, broken}
+use Rattle.json_doc.specs.NumberToken.{read, too_wide, broken}
 use Rattle.json_doc.proofs.NumberLaws.{number_spelled, number_only}
 use Rattle.json_doc.proofs.NumberScans.{number_at-digits, number_at-shorter}
 use Rattle.json_doc.proofs.number_token.read_number.Goals as goal

@@ -1,6 +1,5 @@
-use Rattle.std.proofs.Common.{◌≡◌, ◌∙◌, take, ap, sym, subst}
-use Rattle.std.specs.Str.{chars, IsUtf8, IsValidUpTo}
-use Rattle.json_doc.specs.TextToken.{text_at, with_front}
+use Rattle.std.proofs.Common.{sym, subst}
+use Rattle.std.specs.Str.{IsUtf8, IsValidUpTo}
 use Rattle.json_doc.proofs.TextSteps.{text_at-run, text_at-run_front}
 use Rattle.json_doc.proofs.text_token.plain_front.Goals as goal
 

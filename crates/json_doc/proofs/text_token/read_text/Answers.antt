@@ -1,7 +1,7 @@
-use Rattle.std.proofs.Common.{◌≡◌, ℕ, ◌++◌, List, Ok, Err, IfErr, MatchResult, sym, ap, ◌∙◌, arith}
+use Rattle.std.proofs.Common.{◌≡◌, Ok, Err, sym, ap, ◌∙◌, arith}
 use Rattle.std.proofs.lemmas.Result.{err_from_is_err_and}
 use Rattle.json_doc.specs.Reading.{Stops}
-use Rattle.json_doc.specs.TextToken.{text_at, with_front, BeginsWithText}
+use Rattle.json_doc.specs.TextToken.{text_at}
 use Rattle.json_doc.proofs.TokenParts.{ok_same, Stops-from, Stops-read}
 use Rattle.json_doc.proofs.TextScans.{text_at_ok, text_at-spelled}
 use Rattle.json_doc.proofs.TextSteps.{text_at-closed, text_at-further, text_at-stopped}

@@ -1,4 +1,4 @@
-use Rattle.std.proofs.Common.{◌≡◌, ◌*◌, ◌+◌, ◌-◌, get_or, ap, ◌∙◌, sym, arith}
+use Rattle.std.proofs.Common.{◌*◌, ◌+◌, ◌-◌, get_or, ap, ◌∙◌, sym, arith}
 use Rattle.std.proofs.lemmas.Str.Parse.{digit_at}
 use Rattle.json_doc.proofs.DigitLists.{after-more, long_at}
 use Rattle.json_doc.proofs.significand.Significand.with_digits.Goals as goal
