@@ -1,5 +1,5 @@
 -- Pairs under a table of their keys.
-use Rattle.std.proofs.Common.{◌≡◌, ℕ, nat_eq, Bool, true, false, if◌then◌else◌, List, [], ◌∷◌, ◌++◌, map, refl, sym, ap, subst, ◌∙◌}
+use Rattle.std.proofs.Common.{◌≡◌, ℕ, nat_eq, Bool, true, false, if◌then◌else◌, List, [], ◌∷◌, ◌++◌, refl, sym, ap, ◌∙◌}
 use Rattle.std.specs.Bool.{Decides}
 use Rattle.std.specs.Str.{bytes_eq}
 use Rattle.std.specs.Cmp.Lexicographic.{pointwise}
@@ -29,9 +29,10 @@ pairs_of-insert_entry [] k v = refl
 pairs_of-insert_entry (e ∷ es) k v =
     let after : Bool → List (List ℕ × Doc) = λ b. if b then (e.0, v) ∷ es else e ∷ insert_entry (pointwise nat_eq) es k v in
     elim (bytes_eq e.0 k) as (λ b. pointwise nat_eq k e.0 ≡ b → (b ≡ true → e.0 ≡ k) → pairs_of (after (pointwise nat_eq k e.0))
-    ≡ (if b then record { key = k; value = v } ∷ pairs_of es else record { key = e.0; value = e.1 } ∷ put (pairs_of es) k v))
-    [ true ↦ (λ t same. ap (λ b. pairs_of (after b)) t ∙ ap (λ j. record { key = j; value = v } ∷ pairs_of es) (same refl))
-    | false ↦ (λ t same. ap (λ b. pairs_of (after b)) t ∙ ap (λ ps. record { key = e.0; value = e.1 } ∷ ps) (pairs_of-insert_entry es k v)) ]
+    ≡ (if b then record { key = k; value = v } ∷ pairs_of es else record { key = e.0; value = e.1 } ∷ put (pairs_of es) k v)) [
+      | true ↦ (λ t same. ap (λ b. pairs_of (after b)) t ∙ ap (λ j. record { key = j; value = v } ∷ pairs_of es) (same refl))
+      | false ↦ (λ t same. ap (λ b. pairs_of (after b)) t ∙ ap (λ ps. record { key = e.0; value = e.1 } ∷ ps) (pairs_of-insert_entry es k v))
+    ]
     (turned k e.0) (bytes_eq-Decides e.0 k).0
 
 new-keys : (k : List ℕ) (es : List (List ℕ × Doc)) → AllByRecursion (λ j. pointwise nat_eq k j ≡ false) (keys_of es) → IsNew k (keys (pairs_of es))

@@ -1,13 +1,12 @@
 -- What is behind a number, or left at its fault, is no longer than the bytes.
-use Rattle.std.proofs.Common.{◌≡◌, ◌==◌, ℕ, ◌≤◌, Bool, true, false, if◌then◌else◌, List, [], ◌∷◌, ◌++◌, length, take, drop, Result, Ok, Err, subst, arith, length-drop}
+use Rattle.std.proofs.Common.{◌≡◌, ◌==◌, ℕ, ◌≤◌, Bool, true, false, List, [], ◌∷◌, length, take, drop, Ok, Err, subst, arith, length-drop}
 use Rattle.std.specs.Prelude.{slice_index}
 use Rattle.std.specs.Char.{is_ascii_digit}
 use Rattle.std.specs.List.{prefix_len}
 use Rattle.json_doc.specs.declared.decimal.Decimal.{Decimal}
-use Rattle.json_doc.specs.declared.stop.Stop.{Stop}
-use Rattle.json_doc.specs.declared.stop.Stop.TheVariants.{Syntax, NumberTooWide}
+use Rattle.json_doc.specs.declared.stop.Stop.TheVariants.{Syntax}
 use Rattle.json_doc.specs.Reading.{Read, ◌>>=◌}
-use Rattle.json_doc.specs.NumberToken.{Exponent, Number, digits_at, int_at, frac_at, sign_at, no_exponent, is_exp_mark, exp_at, minus_at, number_at, ReadsNumber}
+use Rattle.json_doc.specs.NumberToken.{Exponent, Number, digits_at, int_at, frac_at, sign_at, no_exponent, is_exp_mark, exp_at, number_at, ReadsNumber}
 use Rattle.json_doc.proofs.Within.{Within, either, wider, bind-within}
 
 pub digits_at-within : (bs : List ℕ) → Within bs (digits_at bs)

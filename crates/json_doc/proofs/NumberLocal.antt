@@ -1,17 +1,15 @@
 -- What reading a number finds before a place depends on the bytes up to that place alone.
-use Rattle.std.proofs.Common.{◌≡◌, ◌==◌, ℕ, suc, ◌+◌, ◌≤◌, Bool, true, false, cond, if◌then◌else◌, List, [], ◌∷◌, ◌++◌, length, take, drop, Result, Ok, Err, refl, sym, ap, subst, ◌∙◌, arith, length-append, length-drop, add-one}
+use Rattle.std.proofs.Common.{◌≡◌, ◌==◌, ℕ, ◌+◌, ◌≤◌, Bool, true, false, cond, if◌then◌else◌, List, [], ◌∷◌, ◌++◌, length, take, drop, Ok, Err, refl, sym, ap, subst, ◌∙◌, arith, length-append, length-drop}
 use Rattle.std.specs.Prelude.{slice_index}
 use Rattle.std.specs.Char.{is_ascii_digit}
 use Rattle.std.specs.List.{prefix_len}
 use Rattle.std.proofs.lemmas.Bool.{eqb-true}
 use Rattle.std.proofs.lemmas.List.{take-append-le, drop-append-le}
-use Rattle.json_doc.specs.declared.decimal.Decimal.{Decimal}
-use Rattle.json_doc.specs.declared.stop.Stop.{Stop}
-use Rattle.json_doc.specs.declared.stop.Stop.TheVariants.{Syntax, NumberTooWide}
-use Rattle.json_doc.specs.Reading.{Read, ◌>>=◌}
-use Rattle.json_doc.specs.NumberToken.{Exponent, Number, digits_at, int_at, frac_at, sign_at, no_exponent, is_exp_mark, exp_at, minus_at, number_at, ReadsNumber}
-use Rattle.json_doc.proofs.Within.{Within, bind-within}
-use Rattle.json_doc.proofs.NumberLeft.{digits_at-within, int_at-within, frac_at-within, unsigned, unsigned-within, signed, signed-within, exp_at-within, behind_minus, behind_minus-within}
+use Rattle.json_doc.specs.declared.stop.Stop.TheVariants.{Syntax}
+use Rattle.json_doc.specs.Reading.{Read}
+use Rattle.json_doc.specs.NumberToken.{Exponent, Number, digits_at, int_at, frac_at, sign_at, no_exponent, is_exp_mark, exp_at, number_at}
+use Rattle.json_doc.proofs.Within.{bind-within}
+use Rattle.json_doc.proofs.NumberLeft.{digits_at-within, frac_at-within, unsigned, unsigned-within, signed, signed-within, exp_at-within, behind_minus, behind_minus-within}
 use Rattle.json_doc.proofs.Local.{Ways, rest, more, Early, Moves, Local, fault-moves, choice-moves, bind-moves, too_late}
 
 -- digits that end before the ways do are as many the other way
@@ -24,9 +22,10 @@ digits-same w [] early =
 digits-same w (b ∷ bs) early =
     let n = prefix_len is_ascii_digit (bs ++ rest w) in
     elim (is_ascii_digit b) as (λ v. length (rest w) ≤ length (drop (cond v (1 + n) 0) (b ∷ bs ++ rest w))
-    → (cond v (1 + prefix_len is_ascii_digit (bs ++ more w)) 0 ≡ cond v (1 + n) 0) × (cond v (1 + n) 0 ≤ length (b ∷ bs)))
-    [ true ↦ (λ e. let s = digits-same w bs (omega (arith, length-drop (1 + n) (b ∷ bs ++ rest w), length-drop n (bs ++ rest w))) in (ap (λ k. 1 + k) s.0, omega (arith, s.1)))
-    | false ↦ (λ e. (refl, omega arith)) ] early
+    → (cond v (1 + prefix_len is_ascii_digit (bs ++ more w)) 0 ≡ cond v (1 + n) 0) × (cond v (1 + n) 0 ≤ length (b ∷ bs))) [
+      | true ↦ (λ e. let s = digits-same w bs (omega (arith, length-drop (1 + n) (b ∷ bs ++ rest w), length-drop n (bs ++ rest w))) in (ap (λ k. 1 + k) s.0, omega (arith, s.1)))
+      | false ↦ (λ e. (refl, omega arith))
+    ] early
 
 -- so many digits
 abbrev digits_of : ℕ → List ℕ → Read (List ℕ)
@@ -35,8 +34,11 @@ digits_of n bs = if n == 0 then Err (Syntax (length bs)) else Ok (take n bs, dro
 digits_of-moves : (w : Ways) (front : List ℕ) (n : ℕ) → n ≤ length front → Early w (digits_of n (front ++ rest w)) → Moves w (digits_of n (front ++ rest w)) (digits_of n (front ++ more w))
 digits_of-moves w front n within early =
     choice-moves w (n == 0) (Err (Syntax (length (front ++ rest w)))) (Ok (take n (front ++ rest w), drop n (front ++ rest w))) _ _ (λ e. fault-moves w front)
-    (λ e. (drop n front, drop-append-le n front (rest w) within,
-    ap (λ ds. Ok (ds, drop n (front ++ more w))) (take-append-le n front (more w) within ∙ sym (take-append-le n front (rest w) within)) ∙ ap (λ bs. Ok (take n (front ++ rest w), bs)) (drop-append-le n front (more w) within))) early
+    (λ e. (
+      drop n front,
+      drop-append-le n front (rest w) within,
+      ap (λ ds. Ok (ds, drop n (front ++ more w))) (take-append-le n front (more w) within ∙ sym (take-append-le n front (rest w) within)) ∙ ap (λ bs. Ok (take n (front ++ rest w), bs)) (drop-append-le n front (more w) within),
+    )) early
 
 digits_of-early : (w : Ways) (n : ℕ) (bs : List ℕ) → length (rest w) ≤ length bs → Early w (digits_of n bs) → length (rest w) ≤ length (drop n bs)
 digits_of-early w n bs long early =

@@ -1,12 +1,10 @@
 -- A text is a document or has one fault.
-use Rattle.std.proofs.Common.{◌≡◌, ℕ, ◌+◌, List, length, Ok, Err, ap, arith}
+use Rattle.std.proofs.Common.{◌≡◌, ℕ, ◌+◌, List, length, Ok, ap, arith}
 use Rattle.json_doc.specs.declared.doc.Doc.{Doc}
 use Rattle.json_doc.specs.declared.read_fault.ReadFault.{ReadFault}
 use Rattle.json_doc.specs.declared.read_fault.ReadFault.TheVariants.{Syntax, TooDeep, NumberTooWide, OutOfMemory}
-use Rattle.json_doc.specs.declared.stop.Stop.{Stop}
-use Rattle.json_doc.specs.declared.stop.Stop.TheVariants as stop
 use Rattle.json_doc.specs.Scan.{Scans}
-use Rattle.json_doc.specs.Faults.{StopsAt, HasFault}
+use Rattle.json_doc.specs.Faults.{HasFault}
 use Rattle.json_doc.proofs.Once.{text_once}
 
 pub no_fault : (bs : List ℕ) (d : Doc) (f : ReadFault) → Scans bs (Ok d) → HasFault bs f → ⊥

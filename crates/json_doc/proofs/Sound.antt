@@ -1,5 +1,5 @@
 -- What reading from the left gives is in the grammar.
-use Rattle.std.proofs.Common.{◌≡◌, ◌==◌, ℕ, ◌+◌, ◌<◌, Bool, true, false, IsTrue, if◌then◌else◌, List, [], ◌∷◌, ◌++◌, length, drop, Some, Result, Ok, Err, refl, sym, ap, subst, ◌∙◌, append_assoc, ◌⊎◌, inl, inr, ⊎_elim}
+use Rattle.std.proofs.Common.{◌≡◌, ◌==◌, ℕ, ◌+◌, ◌<◌, Bool, true, false, IsTrue, if◌then◌else◌, List, [], ◌∷◌, ◌++◌, length, Some, Result, Ok, Err, refl, sym, ap, subst, ◌∙◌, append_assoc, ◌⊎◌, inl, inr, ⊎_elim}
 use Rattle.std.proofs.lemmas.Bool.{eqb-true}
 use Rattle.std.proofs.lemmas.Result.{IfOk-weaker, IfOk-at_ok}
 use Rattle.std.specs.Prelude.{codes, IfOk}
@@ -103,8 +103,8 @@ scalar-is n [] = tt
 scalar-is n (b ∷ bs) =
     let P : Read Doc → Type 0 = λ o. IfOk o (λ x. g.Value n (b ∷ bs) x.0 x.1) in
     let text : b == 34 ≡ true → P (made doc.Str (text_at bs)) = λ e.
-        IfOk-made doc.Str (text_at bs) (λ x. g.Value n (b ∷ bs) x.0 x.1) (IfOk-weaker (text_at bs) (λ x. String (34 ∷ bs) x.0 x.1) (λ x. g.Value n (b ∷ bs) (doc.Str x.0) x.1)
-        (λ x h. g.Value.string (subst (λ c. String (c ∷ bs) x.0 x.1) (sym (eqb-true b 34 e)) h)) (text-is bs)) in
+    IfOk-made doc.Str (text_at bs) (λ x. g.Value n (b ∷ bs) x.0 x.1) (IfOk-weaker (text_at bs) (λ x. String (34 ∷ bs) x.0 x.1) (λ x. g.Value n (b ∷ bs) (doc.Str x.0) x.1)
+    (λ x h. g.Value.string (subst (λ c. String (c ∷ bs) x.0 x.1) (sym (eqb-true b 34 e)) h)) (text-is bs)) in
     either P (b == 34) _ _ text
     (λ _. either P (b == 102) _ _ (named-is n 102 (doc.Flag false) (codes "alse") bs b (λ rest. g.Value.false_name refl))
     (λ _. either P (b == 110) _ _ (named-is n 110 doc.Null (codes "ull") bs b (λ rest. g.Value.null_name refl))

@@ -1,17 +1,15 @@
 -- What reading a text finds before a place depends on the bytes up to that place alone.
-use Rattle.std.proofs.Common.{◌≡◌, ◌==◌, ℕ, zero, suc, ◌+◌, ◌-◌, ◌*◌, ◌≤◌, Bool, true, false, if◌then◌else◌, List, [], ◌∷◌, ◌++◌, length, drop, Option, Some, None, Result, Ok, Err, refl, sym, ap, subst, arith, length-append}
-use Rattle.std.specs.Prelude.{slice_index}
+use Rattle.std.proofs.Common.{◌==◌, ℕ, zero, suc, ◌+◌, if◌then◌else◌, List, [], ◌∷◌, ◌++◌, length, Option, Some, None, Ok, refl, sym, subst, arith}
 use Rattle.std.specs.Int.{is_in_range}
 use Rattle.std.specs.Option.{ok_or}
 use Rattle.std.specs.Char.{digit_value}
 use Rattle.std.specs.Char.Utf16.{is_high_surrogate}
 use Rattle.std.specs.Str.Lossy.{second_byte_min, second_byte_max}
-use Rattle.json_doc.specs.declared.stop.Stop.{Stop}
 use Rattle.json_doc.specs.declared.stop.Stop.TheVariants.{Syntax}
-use Rattle.json_doc.specs.Reading.{Read, ◌>>=◌, byte_in}
-use Rattle.json_doc.specs.TextToken.{tail_at, two_at, three_at, four_at, utf8_at, hex_in, low_half_at, unit_at, unicode_at, named_char, escape_at, char_at, text_within, text_at}
-use Rattle.json_doc.proofs.Within.{Within, either, wider, bind-within}
-use Rattle.json_doc.proofs.TextLeft.{byte_in-within, hex_in-within, two_at-within, three_at-within, four_at-within, unit_at-within, low_half_at-within, unicode_at-within, escape_at-within, char_at-within, text_within-within}
+use Rattle.json_doc.specs.Reading.{◌>>=◌, byte_in}
+use Rattle.json_doc.specs.TextToken.{two_at, three_at, four_at, utf8_at, hex_in, low_half_at, unit_at, unicode_at, named_char, escape_at, char_at, text_within, text_at}
+use Rattle.json_doc.proofs.Within.{Within, either, bind-within}
+use Rattle.json_doc.proofs.TextLeft.{byte_in-within, hex_in-within, two_at-within, three_at-within, four_at-within, low_half_at-within, unicode_at-within, escape_at-within, text_within-within}
 use Rattle.json_doc.proofs.TextSteps.{text_within-same}
 use Rattle.json_doc.proofs.Local.{Ways, rest, more, Early, Moves, Local, fault-moves, choice-moves, bind-moves, too_late}
 

@@ -1,5 +1,5 @@
 -- What reading a value finds before a place depends on the bytes up to that place alone.
-use Rattle.std.proofs.Common.{◌≡◌, ◌==◌, ℕ, suc, ◌+◌, ◌<◌, ◌≤◌, Bool, true, false, if◌then◌else◌, List, [], ◌∷◌, ◌++◌, length, Option, Some, None, Result, Ok, Err, refl, sym, ap, subst, ◌∙◌, arith, length-append, get_or, take, drop, take-append-drop, drop-cons, add-one, append_assoc, length-drop}
+use Rattle.std.proofs.Common.{◌≡◌, ◌==◌, ℕ, suc, ◌+◌, ◌<◌, ◌≤◌, true, false, if◌then◌else◌, List, [], ◌∷◌, ◌++◌, length, Some, None, Result, Ok, Err, refl, sym, ap, subst, ◌∙◌, arith, length-append, get_or, take, drop, take-append-drop, drop-cons, add-one, append_assoc, length-drop}
 use Rattle.std.proofs.Math.Seq.{take-suc}
 use Rattle.json_doc.specs.declared.read_fault.ReadFault.{ReadFault}
 use Rattle.json_doc.specs.declared.read_fault.ReadFault.TheVariants as fault
@@ -13,15 +13,15 @@ use Rattle.json_doc.specs.declared.doc.Doc as doc
 use Rattle.json_doc.specs.declared.doc.Doc.{Doc}
 use Rattle.json_doc.specs.declared.pairs.Pair.{Pair}
 use Rattle.json_doc.specs.declared.stop.Stop.{Stop}
-use Rattle.json_doc.specs.declared.stop.Stop.TheVariants.{Syntax, TooDeep, NumberTooWide, OutOfMemory}
+use Rattle.json_doc.specs.declared.stop.Stop.TheVariants.{Syntax, TooDeep}
 use Rattle.json_doc.specs.Keys.{put}
 use Rattle.json_doc.specs.Reading.{Read, ◌>>=◌}
 use Rattle.json_doc.specs.NumberToken.{number_at, ReadsNumber}
 use Rattle.json_doc.proofs.NumberLocal.{number_at-local}
 use Rattle.json_doc.specs.TextToken.{text_at}
 use Rattle.json_doc.specs.Scan.{made, is_blank, skipped, behind, past, past_word, named, begins_number, scalar_at, key_at, ended, whole, Value, Array, Object, Elements, Members, Scans}
-use Rattle.json_doc.proofs.Within.{Within, Left, left_of, either, wider, bind-within}
-use Rattle.json_doc.proofs.Shorter.{skipped-le, behind-lt, past-le, past_word-le, named-within, made-within, past_skipped-le, bind-left, value_in-within, array_in-within, elements_in-within, object_in-within, members_in-within, key_at-within}
+use Rattle.json_doc.proofs.Within.{Within, Left, bind-within}
+use Rattle.json_doc.proofs.Shorter.{skipped-le, behind-lt, past-le, past_word-le, named-within, made-within, past_skipped-le, bind-left, value_in-within, array_in-within, elements_in-within, object_in-within, members_in-within}
 use Rattle.json_doc.proofs.TextLeft.{text_at-within}
 use Rattle.json_doc.proofs.TextLocal.{text_at-local}
 use Rattle.json_doc.proofs.Local.{Ways, rest, more, moved, moved_stop, found_at, Early, Moves, Local, fault-moves, moved-error, choice-moves, bind-moves, too_late, early-before}
@@ -221,9 +221,11 @@ mutual
   value_local (Value.number {bs = bs} {o = o} starts r) w cs t early =
       let q = number_local bs o r w cs t (made-early w doc.Number o early) in
       (made doc.Number q.0, Value.number (twins_number w bs cs t ∙ starts) q.1, made-moves w doc.Number o q.0 q.2)
-  value_local (Value.scalar {n = n} {bs = bs} {o = o} e f apart g) w cs t early =
-      (scalar_at cs, Value.scalar (twins_not w 91 bs cs t e) (twins_not w 123 bs cs t f) (twins_number w bs cs t ∙ apart) refl,
-      subst (λ q. Moves w q (scalar_at cs)) g (twins_local scalar_at scalar_at-local w bs cs t (subst (Early w) (sym g) early)))
+  value_local (Value.scalar {n = n} {bs = bs} {o = o} e f apart g) w cs t early = (
+    scalar_at cs,
+    Value.scalar (twins_not w 91 bs cs t e) (twins_not w 123 bs cs t f) (twins_number w bs cs t ∙ apart) refl,
+    subst (λ q. Moves w q (scalar_at cs)) g (twins_local scalar_at scalar_at-local w bs cs t (subst (Early w) (sym g) early)),
+  )
   value_local (Value.array {n = n} {bs = bs} {ws = ws} {o = o} e less a) w cs t early =
       let inner = made-early w doc.Items o early in
       let long = early-before w (skipped ws) o inner (array_in-within a) in
@@ -266,9 +268,11 @@ mutual
       (q.0, Elements.more_elements r.1 (twins_not w 93 (skipped ws) (skipped r.0) s e) b.1 q.1, q.2)
   elements_local (Elements.open_array {n = n} {ds = ds} {ws = ws} {d = d} v e f) w cs t early =
       let r = value_end n w cs ws d (value_local v w cs t (omega (arith, skipped-le ws))) in
-      let s = twins_skipped w ws r.0 r.2 early in
-      (Err (Syntax (length (skipped r.0))), Elements.open_array r.1 (twins_not w 93 (skipped ws) (skipped r.0) s e) (twins_not w 44 (skipped ws) (skipped r.0) s f),
-      twins_error w (skipped ws) (skipped r.0) Syntax (λ left. refl) s)
+      let s = twins_skipped w ws r.0 r.2 early in (
+        Err (Syntax (length (skipped r.0))),
+        Elements.open_array r.1 (twins_not w 93 (skipped ws) (skipped r.0) s e) (twins_not w 44 (skipped ws) (skipped r.0) s f),
+        twins_error w (skipped ws) (skipped r.0) Syntax (λ left. refl) s,
+      )
 
   object_local : {n : ℕ} {bs : List ℕ} {o : Read (List (Pair Doc))} → Object n bs o → Again (Object n) bs o
   object_local (Object.empty_object {bs = bs} {rest = us} e) w cs t early =
@@ -303,9 +307,11 @@ mutual
   members_local (Members.open_object {n = n} {ps = ps} {bs = bs} {k = k} {vs = vs} {ws = ws} {d = d} e v f g) w cs t early =
       let key = key_end w bs cs k vs t e (omega (arith, skipped-le ws, value_in-within v)) in
       let r = value_end n w key.0 ws d (value_local v w key.0 key.2 (omega (arith, skipped-le ws))) in
-      let s = twins_skipped w ws r.0 r.2 early in
-      (Err (Syntax (length (skipped r.0))), Members.open_object key.1 r.1 (twins_not w 125 (skipped ws) (skipped r.0) s f) (twins_not w 44 (skipped ws) (skipped r.0) s g),
-      twins_error w (skipped ws) (skipped r.0) Syntax (λ left. refl) s)
+      let s = twins_skipped w ws r.0 r.2 early in (
+        Err (Syntax (length (skipped r.0))),
+        Members.open_object key.1 r.1 (twins_not w 125 (skipped ws) (skipped r.0) s f) (twins_not w 44 (skipped ws) (skipped r.0) s g),
+        twins_error w (skipped ws) (skipped r.0) Syntax (λ left. refl) s,
+      )
 
 error_same : (o : Read Doc) (a b : Stop) → o ≡ Err a → o ≡ Err b → a ≡ b
 error_same o a b e f = cc
@@ -343,7 +349,7 @@ dead_end bs at left stop stops place within seen changed d reads =
     let w : Ways = record { first = get_or bs at 0; others = drop (suc at) bs; changed = changed } in
     let whole_is : bs ≡ take at bs ++ rest w = sym (take-append-drop at bs) ∙ ap (λ us. take at bs ++ us) (drop-cons bs at 0 within) in
     let changed_is : take (at + 1) bs ++ changed ≡ take at bs ++ more w =
-        ap (λ k. take k bs ++ changed) (add-one at) ∙ ap (λ us. us ++ changed) (take-suc bs at 0 within) ∙ append_assoc (take at bs) (get_or bs at 0 ∷ []) changed in
+    ap (λ k. take k bs ++ changed) (add-one at) ∙ ap (λ us. us ++ changed) (take-suc bs at 0 within) ∙ append_assoc (take at bs) (get_or bs at 0 ∷ []) changed in
     let short : length (rest w) ≤ found_at stop = omega (arith, ap length (drop-cons bs at 0 within), length-drop at bs) in
     let again = text_local w (take at bs) stop (subst (λ us. Scans us (Err stop)) whole_is stops) short in
     let e = text_once (take at bs ++ more w) _ _ again (text_complete (take at bs ++ more w) d (subst (λ us. Reads us d) changed_is reads)) in

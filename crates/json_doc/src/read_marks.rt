@@ -3,9 +3,9 @@ ghost use Rattle.std.specs.Option.{option_copied};
 ghost use Rattle.json_doc.specs.Reading.{Gives, Stops};
 ghost use Rattle.json_doc.specs.Scan.{begins_number, is_blank, skipped, behind, past, past_word, key_at};
 
+use crate::Text;
 use crate::stop::Stop;
 use crate::text_token::read_text;
-use crate::Text;
 use std::alloc::Global;
 
 /// Whether a number stands in front.

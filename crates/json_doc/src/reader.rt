@@ -54,3 +54,70 @@ fn read_whole(alloc: Global, bytes: &[u8]) -> Result<Doc, Stop>
         Err(Stop::Syntax(rest.len()))
     }
 }
+
+#[cfg(test)]
+mod tests {
+    use super::*;
+    use crate::Decimal;
+    use std::test::Fail;
+
+    #[test]
+    fn keeps_the_last_value_in_the_first_place(rt: HostRuntime) -> Result<(), Fail> {
+        let text = "{\"a\":1.50,\"b\":2,\"a\":\"\u{e9}\"}";
+        let Doc::Fields(fields) = read(rt.alloc(), text.as_bytes())? else {
+            return Err("no object".into());
+        };
+        let [a, b] = fields.as_slice() else {
+            return Err("not two fields".into());
+        };
+        assert_eq!(rt; a.key.as_str(), "a");
+        assert!(rt; matches!(&a.value, Doc::Str(text) if text.as_str() == "\u{e9}"));
+        assert!(rt;
+            matches!(
+                b.value,
+                Doc::Number(Decimal {
+                    is_negative: false,
+                    magnitude: 2,
+                    scale: 0
+                })
+            )
+        );
+        Ok(())
+    }
+
+    #[test]
+    fn answers_the_first_fault(rt: HostRuntime) -> Result<(), Fail> {
+        let rows = [
+            ("", ReadFault::Syntax(0)),
+            (" nul", ReadFault::Syntax(4)),
+            ("null x", ReadFault::Syntax(5)),
+            ("[1,]", ReadFault::Syntax(3)),
+            ("{\"a\" 1}", ReadFault::Syntax(5)),
+            ("\"\\udc00\"", ReadFault::Syntax(4)),
+            ("\"\\ud800x\"", ReadFault::Syntax(7)),
+            ("1E36", ReadFault::NumberTooWide(0)),
+            ("1E36x", ReadFault::NumberTooWide(0)),
+            ("[01]", ReadFault::Syntax(2)),
+        ];
+        for (text, fault) in rows {
+            match read(rt.alloc(), text.as_bytes()) {
+                Ok(_) => panic!(rt; "{text} was read"),
+                Err(found) => assert_eq!(rt; found, fault, "at {text}"),
+            }
+        }
+        Ok(())
+    }
+
+    #[test]
+    fn reads_a_hundred_levels(rt: HostRuntime) -> Result<(), Fail> {
+        let open = [b'['; 101];
+        assert!(rt;
+            matches!(
+                read(rt.alloc(), open.as_slice()),
+                Err(ReadFault::TooDeep(100))
+            )
+        );
+        assert!(rt; matches!(read(rt.alloc(), &open[..100]), Err(ReadFault::Syntax(100))));
+        Ok(())
+    }
+}

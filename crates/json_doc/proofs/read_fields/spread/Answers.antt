@@ -10,6 +10,6 @@ loop-key-preserved c =
     let so_far = pairs_of c.loop-key.map.entries in
     let left = into_iter_items c.next.new.self in
     let all : c.args.pairs ≡ so_far ++ c.in-Some.field-0 ∷ left =
-        sym c.loop-key.invariant ∙ ap (λ es. so_far ++ es) c.in-Some.ensures.steps.0 in
+    sym c.loop-key.invariant ∙ ap (λ es. so_far ++ es) c.in-Some.ensures.steps.0 in
     let new = IsNew-before so_far left c.in-Some.field-0 (subst (λ ps. IsDistinct (keys ps)) all c.into_vec-key-items.ensures.distinct) in
     ap (λ ps. ps ++ left) (c.in_ok-put_entry.ensures ∙ put_last so_far c.in-Some.field-0.key c.in-Some.field-0.value new) ∙ append_assoc so_far (c.in-Some.field-0 ∷ []) left ∙ sym all

@@ -1,6 +1,5 @@
 use Rattle.std.proofs.Common.{◌≡◌, ◌++◌}
 use Rattle.std.specs.Vec.Iter.{into_iter_items}
-use Rattle.json_doc.specs.Keys.{keys, IsDistinct}
 use Rattle.json_doc.specs.Gathered.{pairs_of}
 use Rattle.json_doc.proofs.read_fields.spread.Given as goal
 

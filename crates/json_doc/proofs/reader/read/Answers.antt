@@ -1,4 +1,4 @@
-use Rattle.std.proofs.Common.{◌≡◌, Ok, Err, inl, inr, rules}
+use Rattle.std.proofs.Common.{inl}
 use Rattle.json_doc.specs.declared.read_fault.ReadFault.TheVariants as fault
 use Rattle.json_doc.proofs.Complete.{text_complete}
 use Rattle.json_doc.proofs.Once.{text_once}

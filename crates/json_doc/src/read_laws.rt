@@ -1,0 +1,20 @@
+//! What is true of every text, whichever is read.
+ghost use Rattle.std.specs.Prelude.{◌≡◌, ◌↔◌, ℕ, List, Ok};
+ghost use Rattle.json_doc.specs.declared.doc.Doc.{Doc};
+ghost use Rattle.json_doc.specs.declared.read_fault.ReadFault.{ReadFault};
+ghost use Rattle.json_doc.specs.Faults.{HasFault};
+ghost use Rattle.json_doc.specs.Grammar.{Reads};
+ghost use Rattle.json_doc.specs.Scan.{Scans};
+
+/// Reading from the left ends with a document exactly where the grammar has it, at most 100 deep
+/// and with numbers that are decimals.
+pub fn reading_is_grammar()
+    ensures { (bytes : List ℕ) (d : Doc) → Scans bytes (Ok d) ↔ Reads bytes d }
+{}
+
+/// A text is one document at most, and then it has no fault; or it has one fault at most.
+pub fn reading_is_unique()
+    ensures document { (bytes : List ℕ) (d e : Doc) → Reads bytes d → Reads bytes e → d ≡ e }
+    ensures no_fault { (bytes : List ℕ) (d : Doc) (f : ReadFault) → Reads bytes d → HasFault bytes f → ⊥ }
+    ensures fault { (bytes : List ℕ) (f g : ReadFault) → HasFault bytes f → HasFault bytes g → f ≡ g }
+{}
