@@ -1,6 +1,7 @@
 pub mod AdvanceLemmas
 pub mod CaseLemmas
 pub mod CutLemmas
+pub mod PrintedLines
 pub mod ReadLemmas
 pub mod ScanLemmas
 pub mod StepLemmas
