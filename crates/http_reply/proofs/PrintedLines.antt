@@ -105,13 +105,13 @@ token_return = refl
 abbrev pub field_text : Field → List ℕ
 field_text f = f.name ++ 58 ∷ f.raw
 
-HasNoFeed-field : (f : Field) → IsField f → HasNoFeed (field_text f)
+pub HasNoFeed-field : (f : Field) → IsField f → HasNoFeed (field_text f)
 HasNoFeed-field f x =
     HasNoFeed-append f.name (58 ∷ f.raw) (HasNoFeed-pass is_token_byte token_feed f.name x.name.1)
     (refl, HasNoFeed-pass is_value_byte refl f.raw x.raw)
 
 -- a field begins no empty line
-empty_line-field : (f : Field) (rest : List ℕ) → IsField f → empty_line (field_text f ++ rest) ≡ None
+pub empty_line-field : (f : Field) (rest : List ℕ) → IsField f → empty_line (field_text f ++ rest) ≡ None
 empty_line-field f rest x = begins f.name x.name.0 x.name.1 (58 ∷ f.raw) rest
   where
     begins : (name : List ℕ) → 0 < length name → AllPass is_token_byte name → (raw rest : List ℕ) → empty_line ((name ++ raw) ++ rest) ≡ None

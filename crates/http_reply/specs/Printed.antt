@@ -1,12 +1,12 @@
 -- Whole replies as the grammar prints them (RFC 9112, sections 2.1, 6.3 and 7.1).
-use Rattle.std.specs.Prelude.{◌≡◌, ℕ, ◌+◌, ◌<◌, ◌≤◌, Bool, List, [], ◌++◌, length, map, All, Option}
+use Rattle.std.specs.Prelude.{◌≡◌, ℕ, ◌+◌, ◌<◌, ◌≤◌, Bool, true, None, List, [], ◌++◌, length, map, All, Option}
 use Rattle.std.specs.List.{flat_map}
 use Rattle.httparse.specs.Ascii.{crlf_bytes}
 use Rattle.httparse.specs.Grammar.{LineEnd, Field, IsField, print_section, ResponseHead, IsResponseHead, print_response, status_code, ChunkLine, IsChunkLine, print_chunk_line, chunk_size}
 use Rattle.httparse.specs.Spans.{name_and_value}
 use Rattle.aws_world.specs.declared.link.LinkFault.{LinkFault}
 use Rattle.http_reply.specs.declared.kinds.Kind.{Kind}
-use Rattle.http_reply.specs.declared.kinds.Kind.TheVariants.{Interim, NoBody, Chunked, Fixed}
+use Rattle.http_reply.specs.declared.kinds.Kind.TheVariants.{Interim, NoBody, Chunked, Fixed, ToEnd}
 use Rattle.http_reply.specs.declared.outcome.Outcome.TheVariants.{Whole}
 use Rattle.http_reply.specs.declared.limits.TheConstants.{HEAD_LIMIT, FIELD_LIMIT, CHUNK_LINE_LIMIT, BODY_LIMIT, TOTAL_LIMIT}
 use Rattle.http_reply.specs.Kinds.{kind_of}
@@ -98,3 +98,13 @@ PrintedIsWhole =
   (head_only : Bool) (r : PrintedReply) (more : List ℕ) (ended : Bool) (fault : Option LinkFault)
   → IsPrinted head_only r
   → IsOutcome head_only (print_reply r ++ more) ended fault (Whole (with_more (reply_of r.head) (body_bytes r.body)))
+
+-- a reply whose body lasts until the peer ends is answered as whole at that end
+abbrev pub EndedIsWhole : Type 0
+EndedIsWhole =
+  (head_only : Bool) (interims : List ResponseHead) (h : ResponseHead) (bytes : List ℕ)
+  → All IsPlainHead interims → All (λ i. kind_after head_only i ≡ Interim) interims
+  → IsPlainHead h → kind_after head_only h ≡ ToEnd
+  → length (flat_map print_response interims) + length (print_response h) ≤ HEAD_LIMIT
+  → length bytes ≤ BODY_LIMIT
+  → IsOutcome head_only (flat_map print_response interims ++ (print_response h ++ bytes)) true None (Whole (with_more (reply_of h) bytes))
