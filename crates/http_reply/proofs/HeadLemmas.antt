@@ -15,7 +15,7 @@ use Rattle.http_reply.specs.declared.kinds.Kind.TheVariants.{Interim}
 use Rattle.http_reply.specs.Fields.{fields_in}
 use Rattle.http_reply.specs.Kinds.{kind_of}
 use Rattle.http_reply.specs.Machine.{heads, move, reply_of, JudgesHead, after_head}
-use Rattle.http_reply.specs.Reading.{HasSmallHead}
+use Rattle.http_reply.specs.Outcome.{HasSmallHead}
 use Rattle.httparse.proofs.GrammarLemmas.{print_response-append}
 
 length-skip_ows : (bytes : List ℕ) → length (skip_ows bytes) ≤ length bytes

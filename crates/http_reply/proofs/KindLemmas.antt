@@ -11,18 +11,18 @@ use Rattle.std.proofs.lemmas.List.Folds.{list_all_more}
 use Rattle.std.proofs.lemmas.Slice.Eq.{bytes_eq-Decides}
 use Rattle.httparse.proofs.ChunkLemmas.{digits_value_after_push}
 use Rattle.http_reply.specs.declared.kinds.Kind.{Kind}
-use Rattle.http_reply.specs.declared.kinds.Kind.TheVariants.{Interim, NoBody, Chunked, Fixed, ToEnd, Bad, TooLarge}
+use Rattle.http_reply.specs.declared.kinds.Kind.TheVariants.{Interim, NoBody, Chunked, Fixed, ToEnd, Malformed, TooLarge}
 use Rattle.http_reply.specs.Fields.{first_of}
 use Rattle.http_reply.specs.Kinds.{kind_by_length, kind_by_number}
 
 pub kind_by_length-some : (values : List (List ℕ)) (v : List ℕ) → first_of values ≡ Some v
-    → kind_by_length values ≡ cond (list_all (λ copy. bytes_eq copy v) values) (kind_by_number v) Bad
+    → kind_by_length values ≡ cond (list_all (λ copy. bytes_eq copy v) values) (kind_by_number v) Malformed
 kind_by_length-some [] v e = cc
 kind_by_length-some (w ∷ values) v e =
     let same : w ≡ v = cc in
     let refl_eq = (bytes_eq-Decides v v).1 refl in
-    subst (λ u. kind_by_length (u ∷ values) ≡ cond (bytes_eq u v && list_all (λ copy. bytes_eq copy v) values) (kind_by_number v) Bad) (sym same)
-    (ap (λ t. cond (t && list_all (λ copy. bytes_eq copy v) values) (kind_by_number v) Bad) (sym refl_eq))
+    subst (λ u. kind_by_length (u ∷ values) ≡ cond (bytes_eq u v && list_all (λ copy. bytes_eq copy v) values) (kind_by_number v) Malformed) (sym same)
+    (ap (λ t. cond (t && list_all (λ copy. bytes_eq copy v) values) (kind_by_number v) Malformed) (sym refl_eq))
 
 -- the number of one more digit
 pub digits_value_more : (value : List ℕ) (i : ℕ) → i < length value → is_ascii_digit (get_or value i 0) ≡ true

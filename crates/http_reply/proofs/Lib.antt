@@ -1,6 +1,8 @@
 pub mod AdvanceLemmas
 pub mod CaseLemmas
 pub mod CutLemmas
+pub mod PrintedLines
+pub mod PrintedReplies
 pub mod ReadLemmas
 pub mod ScanLemmas
 pub mod StepLemmas

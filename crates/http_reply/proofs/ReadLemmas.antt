@@ -46,25 +46,25 @@ module _ (head_only : Bool) (received piece : List ℕ) (reader : ReplyReader) (
       → Reaches reader.head_only (phase_of reader.due reader.reply) bytes after s
   reached_is after r s e x = subst (λ t. Reaches reader.head_only (phase_of reader.due reader.reply) bytes after t) e x
 
-  pub ready_after : (after : Reply) (r : Reached) → Reaches reader.head_only (phase_of reader.due reader.reply) bytes after r
-      → r ≡ reached.Ready → HasVerdict head_only (received ++ piece) (Whole after)
-  ready_after after r x e = verdict_after (Whole after) (reached_is after r reached.Ready e x).0
+  pub whole_after : (after : Reply) (r : Reached) → Reaches reader.head_only (phase_of reader.due reader.reply) bytes after r
+      → r ≡ reached.Whole → HasVerdict head_only (received ++ piece) (Whole after)
+  whole_after after r x e = verdict_after (Whole after) (reached_is after r reached.Whole e x).0
 
-  pub ready_with_after : (after : Reply) (r : Reached) (at size : ℕ) → Reaches reader.head_only (phase_of reader.due reader.reply) bytes after r
-      → r ≡ reached.ReadyWith at size
+  pub whole_with_after : (after : Reply) (r : Reached) (at size : ℕ) → Reaches reader.head_only (phase_of reader.due reader.reply) bytes after r
+      → r ≡ reached.WholeWith at size
       → HasVerdict head_only (received ++ piece) (Whole (record after { body = take size (drop at bytes) }))
-  ready_with_after after r at size x e =
-      let y = reached_is after r (reached.ReadyWith at size) e x in
+  whole_with_after after r at size x e =
+      let y = reached_is after r (reached.WholeWith at size) e x in
       subst (λ (b : List ℕ). HasVerdict head_only (received ++ piece) (Whole (record after { body = b ++ take size (drop at bytes) })))
       y.1.1 (verdict_after (Whole (with_more after (take size (drop at bytes)))) y.0)
 
-  pub wrong_after : (after : Reply) (r : Reached) → Reaches reader.head_only (phase_of reader.due reader.reply) bytes after r
-      → r ≡ reached.Wrong → HasVerdict head_only (received ++ piece) Malformed
-  wrong_after after r x e = verdict_after Malformed (reached_is after r reached.Wrong e x)
+  pub malformed_after : (after : Reply) (r : Reached) → Reaches reader.head_only (phase_of reader.due reader.reply) bytes after r
+      → r ≡ reached.Malformed → HasVerdict head_only (received ++ piece) Malformed
+  malformed_after after r x e = verdict_after Malformed (reached_is after r reached.Malformed e x)
 
-  pub big_after : (after : Reply) (r : Reached) → Reaches reader.head_only (phase_of reader.due reader.reply) bytes after r
-      → r ≡ reached.Big → HasVerdict head_only (received ++ piece) TooLarge
-  big_after after r x e = verdict_after TooLarge (reached_is after r reached.Big e x)
+  pub too_large_after : (after : Reply) (r : Reached) → Reaches reader.head_only (phase_of reader.due reader.reply) bytes after r
+      → r ≡ reached.TooLarge → HasVerdict head_only (received ++ piece) TooLarge
+  too_large_after after r x e = verdict_after TooLarge (reached_is after r reached.TooLarge e x)
 
   -- the reader that waits on
   pub waits_after : (after : Reply) (r : Reached) (d : Due) (at : ℕ) (next : ReplyReader) → Reaches reader.head_only (phase_of reader.due reader.reply) bytes after r

@@ -5,7 +5,7 @@ use Rattle.std.specs.Char.{is_ascii_digit}
 use Rattle.std.specs.Str.{str_eq_ignore_ascii_case}
 use Rattle.std.specs.Str.Parse.{digits_value}
 use Rattle.http_reply.specs.declared.kinds.Kind.{Kind}
-use Rattle.http_reply.specs.declared.kinds.Kind.TheVariants.{Interim, NoBody, Chunked, Fixed, ToEnd, Bad, TooLarge}
+use Rattle.http_reply.specs.declared.kinds.Kind.TheVariants.{Interim, NoBody, Chunked, Fixed, ToEnd, Malformed, TooLarge}
 use Rattle.http_reply.specs.Fields.{named}
 use Rattle.http_reply.specs.declared.limits.TheConstants.{BODY_LIMIT}
 
@@ -19,19 +19,19 @@ abbrev pub kind_by_number : List ℕ → Kind
 kind_by_number value =
   if is_length value
   then (if nat_le (digits_value 10 value) BODY_LIMIT then Fixed (digits_value 10 value) else TooLarge)
-  else Bad
+  else Malformed
 
 -- by the values of Content-Length, whose copies must be equal
 abbrev pub kind_by_length : List (List ℕ) → Kind
 kind_by_length [] = ToEnd
 kind_by_length (value ∷ copies) =
-  if list_all (λ copy. bytes_eq copy value) copies then kind_by_number value else Bad
+  if list_all (λ copy. bytes_eq copy value) copies then kind_by_number value else Malformed
 
 -- by the values of Transfer-Encoding, which goes before Content-Length
 abbrev pub kind_by_coding : List (List ℕ) → Kind → Kind
 kind_by_coding [] other = other
 kind_by_coding (coding ∷ codings) other =
-  if list_all (λ c. str_eq_ignore_ascii_case c (codes "chunked")) (coding ∷ codings) then Chunked else Bad
+  if list_all (λ c. str_eq_ignore_ascii_case c (codes "chunked")) (coding ∷ codings) then Chunked else Malformed
 
 -- by the method, the status and the fields of the head
 abbrev pub kind_of : Bool → ℕ → List (List ℕ × List ℕ) → Kind
@@ -47,5 +47,5 @@ IsWithinLimit NoBody = Unit {0}
 IsWithinLimit Chunked = Unit {0}
 IsWithinLimit (Fixed size) = size ≤ BODY_LIMIT
 IsWithinLimit ToEnd = Unit {0}
-IsWithinLimit Bad = Unit {0}
+IsWithinLimit Malformed = Unit {0}
 IsWithinLimit TooLarge = Unit {0}

@@ -4,5 +4,6 @@ pub mod Kinds
 pub mod Laws
 pub mod Machine
 pub mod Outcome
+pub mod Printed
 pub mod Reading
 pub mod Waiting

@@ -6,7 +6,7 @@ use Rattle.httparse.specs.Grammar.{ResponseHead, ReadsResponse, status_code, Chu
 use Rattle.httparse.specs.Spans.{name_and_value}
 use Rattle.aws_world.specs.declared.message.Reply.{Reply}
 use Rattle.http_reply.specs.declared.kinds.Kind.{Kind}
-use Rattle.http_reply.specs.declared.kinds.Kind.TheVariants.{Interim, NoBody, Chunked, Fixed, ToEnd, Bad, TooLarge as Big}
+use Rattle.http_reply.specs.declared.kinds.Kind.TheVariants.{Interim, NoBody, Chunked, Fixed, ToEnd, Malformed as Bad, TooLarge as Big}
 use Rattle.http_reply.specs.declared.outcome.Outcome.{Outcome}
 use Rattle.http_reply.specs.declared.outcome.Outcome.TheVariants.{Whole, Malformed, TooLarge}
 use Rattle.http_reply.specs.declared.limits.TheConstants.{HEAD_LIMIT, LINE_LIMIT, FIELD_LIMIT, CHUNK_LINE_LIMIT, BODY_LIMIT}

@@ -1,10 +1,10 @@
 -- What comes of the bytes that were received of a reply, however they came.
-use Rattle.std.specs.Prelude.{◌≡◌, ℕ, ◌<◌, ◌≤◌, ◌⊎◌, Bool, true, List, [], length, take, Option, None, Some}
+use Rattle.std.specs.Prelude.{◌≡◌, ℕ, ◌+◌, ◌<◌, ◌≤◌, ◌⊎◌, Bool, true, List, [], length, take, sum_by, Option, None, Some}
 use Rattle.aws_world.specs.declared.link.LinkFault.{LinkFault}
 use Rattle.aws_world.specs.declared.message.Reply.{Reply}
 use Rattle.http_reply.specs.declared.outcome.Outcome.{Outcome}
 use Rattle.http_reply.specs.declared.outcome.Outcome.TheVariants.{Whole, Lost, Cut, Malformed, TooLarge, OutOfMemory}
-use Rattle.http_reply.specs.declared.limits.TheConstants.{TOTAL_LIMIT}
+use Rattle.http_reply.specs.declared.limits.TheConstants.{HEAD_LIMIT, BODY_LIMIT, TOTAL_LIMIT}
 use Rattle.http_reply.specs.Machine.{Phase, heads, fixed, lines, chunk, trailers, to_end, Decides, Awaits, with_more}
 
 -- the bytes up to the limit of all
@@ -49,3 +49,20 @@ IsOutcome head_only received ended fault (Lost kind) = Waits head_only received 
 IsOutcome head_only received ended fault Cut =
   (q : Phase) × (rest : List ℕ) × IsWaiting head_only received q rest × IsCutIn q × HasEnded ended fault
 IsOutcome head_only received ended fault OutOfMemory = Unit {0}
+
+-- the names and values of the headers together, in characters
+abbrev pub header_characters : Reply → ℕ
+header_characters reply = sum_by (λ field. length field.0 + length field.1) reply.headers
+
+-- the headers are within the limit of heads
+abbrev pub HasSmallHead : Reply → Type 0
+HasSmallHead reply = header_characters reply ≤ HEAD_LIMIT
+
+-- a whole reply is within the limits
+abbrev pub IsSmall : Outcome → Type 0
+IsSmall (Whole reply) = HasSmallHead reply × (length reply.body ≤ BODY_LIMIT)
+IsSmall (Lost kind) = Unit {0}
+IsSmall Cut = Unit {0}
+IsSmall Malformed = Unit {0}
+IsSmall TooLarge = Unit {0}
+IsSmall OutOfMemory = Unit {0}

@@ -1,36 +1,19 @@
 -- What a reader of replies keeps between two pieces.
-use Rattle.std.specs.Prelude.{◌≡◌, ℕ, ◌+◌, ◌≤◌, Bool, List, [], ◌++◌, length, take, drop, sum_by, Option, option_map}
+use Rattle.std.specs.Prelude.{◌≡◌, ℕ, ◌+◌, ◌≤◌, Bool, List, [], ◌++◌, length, take, drop, Option, option_map}
 use Rattle.aws_world.specs.declared.message.Reply.{Reply}
-use Rattle.http_reply.specs.declared.outcome.Outcome.{Outcome}
-use Rattle.http_reply.specs.declared.outcome.Outcome.TheVariants.{Whole, Lost, Cut, Malformed, TooLarge, OutOfMemory}
+use Rattle.http_reply.specs.declared.outcome.Outcome.TheVariants.{Whole, Malformed, TooLarge}
 use Rattle.http_reply.specs.declared.steps.Due.{Due}
 use Rattle.http_reply.specs.declared.steps.Due.TheVariants.{Heads, Fixed, Lines, Chunk, Trailers, ToEnd}
 use Rattle.http_reply.specs.declared.steps.Stepped.{Stepped}
-use Rattle.http_reply.specs.declared.steps.Stepped.TheVariants.{Waits, Moves, Ready, ReadyWith, Wrong, Big}
+use Rattle.http_reply.specs.declared.steps.Stepped.TheVariants as stepped
 use Rattle.http_reply.specs.declared.steps.ChunkEnd.{ChunkEnd}
 use Rattle.http_reply.specs.declared.steps.ChunkEnd.TheVariants.{Awaited, There, Missing}
 use Rattle.http_reply.specs.declared.reader.Reached.{Reached}
 use Rattle.http_reply.specs.declared.reader.Reached.TheVariants as reached
 use Rattle.http_reply.specs.Cuts.{head_end, line_end}
 use Rattle.http_reply.specs.Machine.{Phase, heads, fixed, lines, chunk, trailers, to_end, Step, wait, move, decide, with_more, Decides, Awaits}
+use Rattle.http_reply.specs.Outcome.{HasSmallHead, IsSmall}
 use Rattle.http_reply.specs.declared.limits.TheConstants.{HEAD_LIMIT, BODY_LIMIT}
-
--- the names and values of the headers together, in characters
-abbrev pub header_characters : Reply → ℕ
-header_characters reply = sum_by (λ field. length field.0 + length field.1) reply.headers
-
--- the headers are within the limit of heads
-abbrev pub HasSmallHead : Reply → Type 0
-HasSmallHead reply = header_characters reply ≤ HEAD_LIMIT
-
--- a whole reply is within the limits
-abbrev pub IsSmall : Outcome → Type 0
-IsSmall (Whole reply) = HasSmallHead reply × (length reply.body ≤ BODY_LIMIT)
-IsSmall (Lost kind) = Unit {0}
-IsSmall Cut = Unit {0}
-IsSmall Malformed = Unit {0}
-IsSmall TooLarge = Unit {0}
-IsSmall OutOfMemory = Unit {0}
 
 -- the phase that is due, of the reply so far
 abbrev pub phase_of : Due → Reply → Phase
@@ -65,21 +48,21 @@ IsScanned ToEnd bytes from = Unit {0}
 
 -- the step that an answer tells, of the reply after it and the bytes that were there
 abbrev pub step_of : Reply → List ℕ → Stepped → Step
-step_of reply bytes Waits = wait
-step_of reply bytes (Moves due taken) = move (phase_of due reply) taken
-step_of reply bytes Ready = decide (Whole reply)
-step_of reply bytes (ReadyWith size) = decide (Whole (with_more reply (take size bytes)))
-step_of reply bytes Wrong = decide Malformed
-step_of reply bytes Big = decide TooLarge
+step_of reply bytes stepped.Waits = wait
+step_of reply bytes (stepped.Moves due taken) = move (phase_of due reply) taken
+step_of reply bytes stepped.Whole = decide (Whole reply)
+step_of reply bytes (stepped.WholeWith size) = decide (Whole (with_more reply (take size bytes)))
+step_of reply bytes stepped.Malformed = decide Malformed
+step_of reply bytes stepped.TooLarge = decide TooLarge
 
 -- after the step the limits are kept, and the reply is the old one where it waits
 abbrev pub StepFits : Reply → Reply → List ℕ → Stepped → Type 0
-StepFits before after bytes Waits = after ≡ before
-StepFits before after bytes (Moves due taken) = Fits due after
-StepFits before after bytes Ready = IsSmall (Whole after)
-StepFits before after bytes (ReadyWith size) = HasSmallHead after × HasNoBody after × (size ≤ length bytes) × (size ≤ BODY_LIMIT)
-StepFits before after bytes Wrong = Unit {0}
-StepFits before after bytes Big = Unit {0}
+StepFits before after bytes stepped.Waits = after ≡ before
+StepFits before after bytes (stepped.Moves due taken) = Fits due after
+StepFits before after bytes stepped.Whole = IsSmall (Whole after)
+StepFits before after bytes (stepped.WholeWith size) = HasSmallHead after × HasNoBody after × (size ≤ length bytes) × (size ≤ BODY_LIMIT)
+StepFits before after bytes stepped.Malformed = Unit {0}
+StepFits before after bytes stepped.TooLarge = Unit {0}
 
 -- the step at a chunk's end
 abbrev pub by_chunk_end : Step → ChunkEnd → Step
@@ -91,9 +74,9 @@ by_chunk_end next Missing = decide Malformed
 abbrev pub Reaches : Bool → Phase → List ℕ → Reply → Reached → Type 0
 Reaches head_only p bytes reply (reached.Waits due at) =
   Awaits head_only p bytes (phase_of due reply) (drop at bytes) × Fits due reply × (at ≤ length bytes)
-Reaches head_only p bytes reply reached.Ready = Decides head_only p bytes (Whole reply) × IsSmall (Whole reply)
-Reaches head_only p bytes reply (reached.ReadyWith at size) =
+Reaches head_only p bytes reply reached.Whole = Decides head_only p bytes (Whole reply) × IsSmall (Whole reply)
+Reaches head_only p bytes reply (reached.WholeWith at size) =
   Decides head_only p bytes (Whole (with_more reply (take size (drop at bytes))))
   × (HasSmallHead reply × HasNoBody reply × (at + size ≤ length bytes) × (size ≤ BODY_LIMIT))
-Reaches head_only p bytes reply reached.Wrong = Decides head_only p bytes Malformed
-Reaches head_only p bytes reply reached.Big = Decides head_only p bytes TooLarge
+Reaches head_only p bytes reply reached.Malformed = Decides head_only p bytes Malformed
+Reaches head_only p bytes reply reached.TooLarge = Decides head_only p bytes TooLarge

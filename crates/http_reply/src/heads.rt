@@ -4,7 +4,7 @@ ghost use Rattle.httparse.specs.Spans.{IsHeaderWithin};
 ghost use Rattle.http_reply.specs.Fields.{fields_in};
 ghost use Rattle.http_reply.specs.Kinds.{IsWithinLimit};
 ghost use Rattle.http_reply.specs.Machine.{JudgesHead, after_head};
-ghost use Rattle.http_reply.specs.Reading.{HasSmallHead};
+ghost use Rattle.http_reply.specs.Outcome.{HasSmallHead};
 
 use crate::kinds::{Kind, kind_of};
 use crate::limits::{FIELD_LIMIT, HEAD_LIMIT};
@@ -61,10 +61,10 @@ pub(crate) fn judge_head(
 {
     let mut spans = [EMPTY_HEADER_SPAN; FIELD_LIMIT];
     let Ok(Status::Complete(found)) = parse_response(head, &mut spans) else {
-        return Ok(Kind::Bad);
+        return Ok(Kind::Malformed);
     };
     if found.len != head.len() {
-        return Ok(Kind::Bad);
+        return Ok(Kind::Malformed);
     }
     let (fields, _) = spans.split_at(found.headers);
     let kind = kind_of(head_only, found.code, head, fields);

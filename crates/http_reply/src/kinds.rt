@@ -23,7 +23,7 @@ pub(crate) enum Kind {
     /// A body that lasts until the peer ends.
     ToEnd,
     /// The fields contradict each other or the grammar.
-    Bad,
+    Malformed,
     /// A body that passes the limit.
     TooLarge,
 }
@@ -43,7 +43,7 @@ pub(crate) fn kind_of(head_only: bool, status: u16, bytes: &[u8], fields: &[Head
     if first_named(bytes, fields, b"transfer-encoding").is_none() {
         return kind_by_length(bytes, fields);
     }
-    if are_chunked(bytes, fields) { Kind::Chunked } else { Kind::Bad }
+    if are_chunked(bytes, fields) { Kind::Chunked } else { Kind::Malformed }
 }
 
 /// By the values of Content-Length.
@@ -55,7 +55,7 @@ fn kind_by_length(bytes: &[u8], fields: &[HeaderSpan]) -> Kind
     let Some(value) = first_named(bytes, fields, b"content-length") else {
         return Kind::ToEnd;
     };
-    if are_copies(bytes, fields, value) { kind_by_number(value) } else { Kind::Bad }
+    if are_copies(bytes, fields, value) { kind_by_number(value) } else { Kind::Malformed }
 }
 
 fn kind_by_number(value: &[u8]) -> Kind
@@ -65,7 +65,7 @@ fn kind_by_number(value: &[u8]) -> Kind
     match number(value) {
         Some(size) if size <= BODY_LIMIT => Kind::Fixed(size),
         Some(_) => Kind::TooLarge,
-        None => Kind::Bad,
+        None => Kind::Malformed,
     }
 }
 

@@ -13,8 +13,8 @@ mod reader;
 mod steps;
 
 pub use headers::header;
-pub use laws::{front_decides, has_one_outcome};
-pub use limits::{BODY_LIMIT, CHUNK_LINE_LIMIT, FIELD_LIMIT, HEAD_LIMIT, LINE_LIMIT, TOTAL_LIMIT};
+pub use laws::{ended_is_whole, front_decides, has_one_outcome, printed_is_whole};
+pub use limits::{BODY_LIMIT, HEAD_LIMIT, TOTAL_LIMIT};
 pub use outcome::Outcome;
 pub use reader::ReplyReader;
 

@@ -2,8 +2,8 @@
 ghost use Rattle.std.specs.Prelude.{◌≡◌, ◌+◌, ◌≤◌, ℕ, Bool, false, List, [], ◌++◌, length, drop, take, vec_len, IfOk, IfSome, IfNone, is_none};
 ghost use Rattle.aws_world.specs.declared.message.Reply.{Reply};
 ghost use Rattle.http_reply.specs.Machine.{wait, Does};
-ghost use Rattle.http_reply.specs.Outcome.{IsOutcome};
-ghost use Rattle.http_reply.specs.Reading.{IsSmall, phase_of, Fits, IsScanned, Reaches};
+ghost use Rattle.http_reply.specs.Outcome.{IsOutcome, IsSmall};
+ghost use Rattle.http_reply.specs.Reading.{phase_of, Fits, IsScanned, Reaches};
 ghost use Rattle.http_reply.specs.Waiting.{WaitsAfter, IsReading, Gives};
 
 use crate::limits::TOTAL_LIMIT;
@@ -20,13 +20,13 @@ pub(crate) enum Reached {
     /// So many bytes are taken, and this waits for more.
     Waits(Due, usize),
     /// The reply is whole.
-    Ready,
+    Whole,
     /// The reply is whole. After so many bytes come those of its body, as many as the second number.
-    ReadyWith(usize, usize),
+    WholeWith(usize, usize),
     /// The reply is malformed.
-    Wrong,
+    Malformed,
     /// The reply is too large.
-    Big,
+    TooLarge,
 }
 
 /// Where to search on, once more bytes follow those that waited.
@@ -65,10 +65,10 @@ fn advance(
                 at += taken;
                 from = 0;
             }
-            Stepped::Ready => return Ok(Reached::Ready),
-            Stepped::ReadyWith(size) => return Ok(Reached::ReadyWith(at, size)),
-            Stepped::Wrong => return Ok(Reached::Wrong),
-            Stepped::Big => return Ok(Reached::Big),
+            Stepped::Whole => return Ok(Reached::Whole),
+            Stepped::WholeWith(size) => return Ok(Reached::WholeWith(at, size)),
+            Stepped::Malformed => return Ok(Reached::Malformed),
+            Stepped::TooLarge => return Ok(Reached::TooLarge),
         }
     }
 }
@@ -160,12 +160,12 @@ impl ReplyReader {
                 cut_front(&mut self.rest, at);
                 Ok(None)
             }
-            Reached::Ready => Ok(Some(Outcome::Whole(self.take_reply(alloc)))),
-            Reached::ReadyWith(at, size) => {
+            Reached::Whole => Ok(Some(Outcome::Whole(self.take_reply(alloc)))),
+            Reached::WholeWith(at, size) => {
                 Ok(Some(Outcome::Whole(self.take_with_body(alloc, at, size))))
             }
-            Reached::Wrong => Ok(Some(Outcome::Malformed)),
-            Reached::Big => Ok(Some(Outcome::TooLarge)),
+            Reached::Malformed => Ok(Some(Outcome::Malformed)),
+            Reached::TooLarge => Ok(Some(Outcome::TooLarge)),
         }
     }
 

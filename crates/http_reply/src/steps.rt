@@ -8,7 +8,8 @@ ghost use Rattle.httparse.specs.Grammar.{ChunkLine, ReadsChunkLine, chunk_size};
 ghost use Rattle.http_reply.specs.Cuts.{head_end, line_end};
 ghost use Rattle.http_reply.specs.Kinds.{IsWithinLimit};
 ghost use Rattle.http_reply.specs.Machine.{Step, wait, decide, Does, CutsHead, after_head, fixed_step, CutsLine, chunk_step, after_chunk, trailer_step, to_end_step};
-ghost use Rattle.http_reply.specs.Reading.{HasSmallHead, HasNoBody, phase_of, Fits, IsScanned, step_of, StepFits, by_chunk_end};
+ghost use Rattle.http_reply.specs.Outcome.{HasSmallHead};
+ghost use Rattle.http_reply.specs.Reading.{HasNoBody, phase_of, Fits, IsScanned, step_of, StepFits, by_chunk_end};
 
 use crate::cuts::{CARRIAGE_RETURN, LINE_FEED, empty_line, head_end, line_end};
 use crate::heads::judge_head;
@@ -42,13 +43,13 @@ pub(crate) enum Stepped {
     /// So many bytes are taken, and this is due next.
     Moves(Due, usize),
     /// The reply is whole.
-    Ready,
+    Whole,
     /// The reply is whole, with the first so many bytes as its body.
-    ReadyWith(usize),
+    WholeWith(usize),
     /// The reply is malformed.
-    Wrong,
+    Malformed,
     /// The reply is too large.
-    Big,
+    TooLarge,
 }
 
 /// More is awaited up to a limit.
@@ -56,7 +57,7 @@ fn wait_within(size: usize, limit: usize) -> Stepped
     ensures step { (reply : Reply) (bytes : List ℕ) → step_of reply bytes result ≡ (if nat_le size limit then wait else decide TooLarge) }
     ensures fits { (reply : Reply) (bytes : List ℕ) → StepFits reply reply bytes result }
 {
-    if size <= limit { Stepped::Waits } else { Stepped::Big }
+    if size <= limit { Stepped::Waits } else { Stepped::TooLarge }
 }
 
 /// After a head of `size` bytes, and `used` bytes of heads before.
@@ -67,12 +68,12 @@ fn after_head(used: usize, size: usize, kind: Kind) -> Stepped
 {
     match kind {
         Kind::Interim => Stepped::Moves(Due::Heads(used + size), size),
-        Kind::NoBody => Stepped::Ready,
+        Kind::NoBody => Stepped::Whole,
         Kind::Chunked => Stepped::Moves(Due::Lines(used + size), size),
         Kind::Fixed(length) => Stepped::Moves(Due::Fixed(length), size),
         Kind::ToEnd => Stepped::Moves(Due::ToEnd, size),
-        Kind::Bad => Stepped::Wrong,
-        Kind::TooLarge => Stepped::Big,
+        Kind::Malformed => Stepped::Malformed,
+        Kind::TooLarge => Stepped::TooLarge,
     }
 }
 
@@ -101,7 +102,7 @@ fn head_step(
     };
     let (head, _) = rest.split_at(size);
     if used + size > HEAD_LIMIT || line_count(head) > LINE_LIMIT {
-        return Ok(Stepped::Big);
+        return Ok(Stepped::TooLarge);
     }
     let kind = judge_head(alloc, head_only, head, reply)?;
     Ok(after_head(used, size, kind))
@@ -112,7 +113,7 @@ fn fixed_step(rest: &[u8], size: usize, reply: &Reply) -> Stepped
     ensures step { step_of reply.now rest.now result ≡ fixed_step reply.now size rest.now }
     ensures fits { StepFits reply.now reply.now rest.now result }
 {
-    if size <= rest.len() { Stepped::ReadyWith(size) } else { Stepped::Waits }
+    if size <= rest.len() { Stepped::WholeWith(size) } else { Stepped::Waits }
 }
 
 fn to_end_step(rest: &[u8], reply: &Reply) -> Stepped
@@ -132,11 +133,11 @@ fn trailer_step(rest: &[u8], from: usize, used: usize, reply: &Reply) -> Stepped
         return wait_within(used + rest.len(), HEAD_LIMIT);
     };
     if used + size > HEAD_LIMIT {
-        return Stepped::Big;
+        return Stepped::TooLarge;
     }
     let (line, _) = rest.split_at(size);
     if empty_line(line, 0).is_some() {
-        return Stepped::Ready;
+        return Stepped::Whole;
     }
     Stepped::Moves(Due::Trailers(used + size), size)
 }
@@ -162,16 +163,16 @@ fn line_step(rest: &[u8], from: usize, used: usize, reply: &Reply) -> Stepped
         return wait_within(rest.len(), CHUNK_LINE_LIMIT);
     };
     if size > CHUNK_LINE_LIMIT {
-        return Stepped::Big;
+        return Stepped::TooLarge;
     }
     let (line, _) = rest.split_at(size);
     match judge_line(line) {
-        None => Stepped::Wrong,
+        None => Stepped::Malformed,
         Some(0) => Stepped::Moves(Due::Trailers(used), size),
         Some(length) if length <= (BODY_LIMIT - reply.body.len()) as u64 => {
             Stepped::Moves(Due::Chunk(used, length as usize), size)
         }
-        Some(_) => Stepped::Big,
+        Some(_) => Stepped::TooLarge,
     }
 }
 
@@ -209,7 +210,7 @@ fn chunk_step(
     let (data, end) = rest.split_at(size);
     match chunk_end(end) {
         ChunkEnd::Awaited => Ok(Stepped::Waits),
-        ChunkEnd::Missing => Ok(Stepped::Wrong),
+        ChunkEnd::Missing => Ok(Stepped::Malformed),
         ChunkEnd::There => {
             reply.body.extend(data)?;
             Ok(Stepped::Moves(Due::Lines(used), size + 2))

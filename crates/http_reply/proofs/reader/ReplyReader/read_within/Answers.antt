@@ -1,7 +1,7 @@
 use Rattle.std.proofs.Common.{inl, refl, sym, ap, ◌∙◌, subst, drop, take, ◌++◌}
 use Rattle.http_reply.specs.declared.outcome.Outcome.TheVariants.{Whole}
 use Rattle.http_reply.specs.Outcome.{HasVerdict}
-use Rattle.http_reply.proofs.ReadLemmas.{ready_after, ready_with_after, wrong_after, big_after, waits_after}
+use Rattle.http_reply.proofs.ReadLemmas.{whole_after, whole_with_after, malformed_after, too_large_after, waits_after}
 use Rattle.http_reply.proofs.reader.ReplyReader.read_within.Goals as goal
 
 pub returns-in-Waits-clause-gives : goal.returns-in-Waits-clause-gives
@@ -10,25 +10,25 @@ returns-in-Waits-clause-gives c = λ head_only received waits.
     c.advance.new.reply c.in_ok-due.field-0 c.in-Waits.due c.in-Waits.at _ c.in_ok-due.ensures c.in-Waits.is refl refl refl refl
     (c.cut_front.ensures ∙ ap (drop c.in-Waits.at) (sym c.deref.ensures.value))
 
-pub returns-in-Ready-clause-gives : goal.returns-in-Ready-clause-gives
-returns-in-Ready-clause-gives c = λ head_only received waits.
+pub returns-in-Whole-clause-gives : goal.returns-in-Whole-clause-gives
+returns-in-Whole-clause-gives c = λ head_only received waits.
     inl (subst (λ r. HasVerdict head_only (received ++ c.args.piece.now) (Whole r)) (sym c.take_reply.ensures)
-        (ready_after head_only received c.args.piece.now c.args.self.now c.deref.result.now waits c.requires.few (c.deref.ensures.value ∙ c.in_ok-extend_from_slice.ensures.items)
-            c.advance.new.reply c.in_ok-due.field-0 c.in_ok-due.ensures c.in-Ready.is))
+        (whole_after head_only received c.args.piece.now c.args.self.now c.deref.result.now waits c.requires.few (c.deref.ensures.value ∙ c.in_ok-extend_from_slice.ensures.items)
+            c.advance.new.reply c.in_ok-due.field-0 c.in_ok-due.ensures c.in-Whole.is))
 
-pub returns-in-ReadyWith-clause-gives : goal.returns-in-ReadyWith-clause-gives
-returns-in-ReadyWith-clause-gives c = λ head_only received waits.
+pub returns-in-WholeWith-clause-gives : goal.returns-in-WholeWith-clause-gives
+returns-in-WholeWith-clause-gives c = λ head_only received waits.
     inl (subst (λ r. HasVerdict head_only (received ++ c.args.piece.now) (Whole r))
-        (ap (λ b. record c.advance.new.reply { body = take c.in-ReadyWith.size (drop c.in-ReadyWith.at b) }) c.deref.ensures.value ∙ sym c.take_with_body.ensures)
-        (ready_with_after head_only received c.args.piece.now c.args.self.now c.deref.result.now waits c.requires.few (c.deref.ensures.value ∙ c.in_ok-extend_from_slice.ensures.items)
-            c.advance.new.reply c.in_ok-due.field-0 c.in-ReadyWith.at c.in-ReadyWith.size c.in_ok-due.ensures c.in-ReadyWith.is))
+        (ap (λ b. record c.advance.new.reply { body = take c.in-WholeWith.size (drop c.in-WholeWith.at b) }) c.deref.ensures.value ∙ sym c.take_with_body.ensures)
+        (whole_with_after head_only received c.args.piece.now c.args.self.now c.deref.result.now waits c.requires.few (c.deref.ensures.value ∙ c.in_ok-extend_from_slice.ensures.items)
+            c.advance.new.reply c.in_ok-due.field-0 c.in-WholeWith.at c.in-WholeWith.size c.in_ok-due.ensures c.in-WholeWith.is))
 
-pub returns-in-Wrong-clause-gives : goal.returns-in-Wrong-clause-gives
-returns-in-Wrong-clause-gives c = λ head_only received waits.
-    wrong_after head_only received c.args.piece.now c.args.self.now c.deref.result.now waits c.requires.few (c.deref.ensures.value ∙ c.in_ok-extend_from_slice.ensures.items)
-    c.advance.new.reply c.in_ok-due.field-0 c.in_ok-due.ensures c.in-Wrong.is
+pub returns-in-Malformed-clause-gives : goal.returns-in-Malformed-clause-gives
+returns-in-Malformed-clause-gives c = λ head_only received waits.
+    malformed_after head_only received c.args.piece.now c.args.self.now c.deref.result.now waits c.requires.few (c.deref.ensures.value ∙ c.in_ok-extend_from_slice.ensures.items)
+    c.advance.new.reply c.in_ok-due.field-0 c.in_ok-due.ensures c.in-Malformed.is
 
-pub returns-in-Big-clause-gives : goal.returns-in-Big-clause-gives
-returns-in-Big-clause-gives c = λ head_only received waits.
-    inl (big_after head_only received c.args.piece.now c.args.self.now c.deref.result.now waits c.requires.few (c.deref.ensures.value ∙ c.in_ok-extend_from_slice.ensures.items)
-        c.advance.new.reply c.in_ok-due.field-0 c.in_ok-due.ensures c.in-Big.is)
+pub returns-in-TooLarge-clause-gives : goal.returns-in-TooLarge-clause-gives
+returns-in-TooLarge-clause-gives c = λ head_only received waits.
+    inl (too_large_after head_only received c.args.piece.now c.args.self.now c.deref.result.now waits c.requires.few (c.deref.ensures.value ∙ c.in_ok-extend_from_slice.ensures.items)
+        c.advance.new.reply c.in_ok-due.field-0 c.in_ok-due.ensures c.in-TooLarge.is)
