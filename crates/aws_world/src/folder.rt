@@ -1,11 +1,12 @@
 //! The names directly below a folder, from the paths of files.
 
-ghost use Rattle.std.specs.Prelude.{◌≡◌, ℕ, ◌++◌, ◌∷◌, ◌↔◌, ◌⊎◌, ◌≢◌, ◌≤◌, ◌==◌, not, IfOk, IfNone, IfSome, OnOk, OnSome, AllPairs, All, Contains, length, take, drop, []};
+ghost use Rattle.std.specs.Prelude.{◌≡◌, ℕ, ◌++◌, ◌∷◌, ◌↔◌, ◌⊎◌, ◌≢◌, ◌≤◌, IfOk, IfNone, IfSome, OnOk, OnSome, AllPairs, All, Contains, length, take, drop, []};
 ghost use Rattle.std.specs.Str.{chars};
 ghost use Rattle.aws_world.specs.FileTree.{HasBelow, IsBelow, IsBefore, IsFirstPart, IsListing};
 
 use json_doc::{Bytes, List, OutOfMemory, Text};
 use std::alloc::Global;
+use std::cmp::Ordering;
 
 /// The names directly below a folder, in the order of their bytes; None where no path lies below.
 pub fn names_below(
@@ -85,9 +86,9 @@ fn place_of(names: &[Text], name: &Text) -> Option<usize>
 {
     for (at, other) in names.iter().enumerate() {
         match other.as_str().cmp(name.as_str()) {
-            std::cmp::Ordering::Less => {}
-            std::cmp::Ordering::Equal => return None,
-            std::cmp::Ordering::Greater => return Some(at),
+            Ordering::Less => {}
+            Ordering::Equal => return None,
+            Ordering::Greater => return Some(at),
         }
     }
     Some(names.len())

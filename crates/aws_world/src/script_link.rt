@@ -23,7 +23,7 @@ pub struct ScriptLink {
 }
 
 impl ScriptLink {
-    ghost use Rattle.std.specs.Prelude.{◌≡◌, ◌≤◌, Some, None, false, [], map};
+    ghost use Rattle.std.specs.Prelude.{Some, false, [], map};
     ghost use Rattle.std.specs.Option.{option_map};
     ghost use Rattle.aws_world.specs.ConnectionLog.{seen};
     ghost use Rattle.aws_world.specs.ScriptLink.{scripts_left, piece_of};
@@ -63,10 +63,10 @@ impl ScriptLink {
 }
 
 impl Link for ScriptLink {
-    ghost use Rattle.std.specs.Prelude.{◌≡◌, ◌+◌, ◌<◌, ◌≤◌, true, false, Some, None, [], ◌∷◌, ◌++◌, length, take, drop, min, is_some, is_ok, IfOk, IfErr, OnOk, IfSome, OnErr};
+    ghost use Rattle.std.specs.Prelude.{◌+◌, true, false, Some, [], ◌∷◌, ◌++◌, length, take, drop, min, is_some, is_ok, IfOk, IfErr, OnOk, IfSome, OnErr};
     ghost use Rattle.std.specs.Result.{result_ok};
-    ghost use Rattle.aws_world.specs.Told.{Tells, HasCause};
-    ghost use Rattle.aws_world.specs.Connection.{fresh, refused, on_last, more_sent, more_received, peer_ended, faulted};
+    ghost use Rattle.aws_world.specs.Told.{HasCause};
+    ghost use Rattle.aws_world.specs.Connection.{fresh, refused, more_sent, more_received, peer_ended};
     ghost use Rattle.aws_world.specs.Talk.{next_talk, sending, less_taken, receiving, reply_left};
     ghost use Rattle.aws_world.specs.ScriptLink.{connections_told, scripts_left, piece_of, talk_of, is_heard, faults_of};
 
