@@ -22,8 +22,8 @@ pub moved : (head_only : Bool) (p : Phase) (bytes : List ℕ) (d : Due) (before 
     → IsMoved head_only p bytes at taken next after
 moved head_only p bytes d before after rest at s next taken leads rest_is within does fits s_is =
     let step : Does head_only (phase_of d before) (drop at bytes) (move (phase_of next after) taken) =
-        subst (λ r. Does head_only (phase_of d before) r (move (phase_of next after) taken)) rest_is
-            (subst (λ t. Does head_only (phase_of d before) rest (step_of after rest t)) s_is does) in
+    subst (λ r. Does head_only (phase_of d before) r (move (phase_of next after) taken)) rest_is
+    (subst (λ t. Does head_only (phase_of d before) rest (step_of after rest t)) s_is does) in
     let takes = takes_within head_only (phase_of d before) (drop at bytes) (phase_of next after) taken step in
     let left = length-drop at bytes in
     record {
@@ -32,5 +32,5 @@ moved head_only p bytes d before after rest at s next taken leads rest_is within
       fits = subst (λ t. StepFits before after rest t) s_is fits;
       leads = subst (λ r. Leads head_only p bytes (phase_of next after) r) (drop-drop taken at bytes)
           (leads_join head_only p bytes (phase_of d before) (drop at bytes) (phase_of next after) (drop taken (drop at bytes)) leads
-              (leads_one head_only (phase_of d before) (drop at bytes) (phase_of next after) taken step));
+          (leads_one head_only (phase_of d before) (drop at bytes) (phase_of next after) taken step));
     }

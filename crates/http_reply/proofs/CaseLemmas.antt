@@ -84,5 +84,5 @@ same_but_case result text bytes name bytes_are utf8 test =
     let by_chars = bytes_eq-Decides (map to_ascii_lowercase text) (map to_ascii_lowercase (chars name)) in
     let P : Type 0 = map to_ascii_lowercase text ≡ map to_ascii_lowercase (chars name) in
     let by_result : Decides result P =
-        (λ yes. one_text _ _ (sym left ∙ test.0 yes ∙ right), λ same. test.1 (left ∙ ap encode_utf8_all same ∙ sym right)) in
+    (λ yes. one_text _ _ (sym left ∙ test.0 yes ∙ right), λ same. test.1 (left ∙ ap encode_utf8_all same ∙ sym right)) in
     same_from_decides _ _ by_result by_chars

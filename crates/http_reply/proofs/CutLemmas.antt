@@ -167,7 +167,7 @@ head_end_later [] more = past_nothing (head_end more) _ (head_end_within more)
 head_end_later (b ∷ bytes) more =
     Later-next (length bytes) _ _
     (Later-or (length bytes) (eqb b 10) (empty_line bytes) (empty_line (bytes ++ more)) _ _
-        (head_end_short bytes) (within_two _ _ (empty_line_within (bytes ++ more))) (empty_line_later bytes more) (head_end_later bytes more))
+    (head_end_short bytes) (within_two _ _ (empty_line_within (bytes ++ more))) (empty_line_later bytes more) (head_end_later bytes more))
 
 none_in : (c : Bool) (e a : Option ℕ) → next (option_or (cond c e None) a) ≡ None → (cond c e None ≡ None) × (a ≡ None)
 none_in false e None h = (refl, refl)
@@ -188,7 +188,7 @@ head_end_from (suc k) [] more two h = absurd (omega arith)
 head_end_from (suc k) (b ∷ bytes) more two h =
     let parts = none_in (eqb b 10) (empty_line bytes) (head_end bytes) h in
     let none : cond (eqb b 10) (empty_line (bytes ++ more)) None ≡ None =
-        ap (λ e. cond (eqb b 10) e None) (empty_line-two bytes more (omega arith)) ∙ parts.0 in
+    ap (λ e. cond (eqb b 10) e None) (empty_line-two bytes more (omega arith)) ∙ parts.0 in
     ap (λ e. next (option_or e (head_end (bytes ++ more)))) none
     ∙ ap next (head_end_from k bytes more (omega arith) parts.1)
     ∙ shifted k (head_end (drop k (bytes ++ more)))

@@ -64,8 +64,15 @@ characters-head bytes h rest x =
     let reason = print_reason h.reason ++ line in
     let code = h.digits ++ reason in
     let version = print_version h.minor ++ 32 ∷ code in
-    omega (arith, length-append (print_section h.fields h.last) rest, length-append (print_end h.line_end) tail, length-append (print_reason h.reason) line,
-        length-append h.digits reason, length-append (print_version h.minor) (32 ∷ code), length-append (print_blank h.blank) version)
+    omega (
+      arith,
+      length-append (print_section h.fields h.last) rest,
+      length-append (print_end h.line_end) tail,
+      length-append (print_reason h.reason) line,
+      length-append h.digits reason,
+      length-append (print_version h.minor) (32 ∷ code),
+      length-append (print_blank h.blank) version,
+    )
 
 -- what the spans of a whole head say is what the grammar says
 pub judged_by : (head_only : Bool) (head : List ℕ) (spans : List HeaderSpan) (found : ResponseSpans) (reply : Reply) (kind : Kind)
@@ -79,7 +86,7 @@ judged_by head_only head spans found reply kind x all few status headers none ki
     let rest : drop found.len head ≡ [] = drop_all found.len head (omega arith) in
     let reads = subst (λ r. ReadsResponse head h r) rest at.reads in
     let count = sym (length-map h.fields name_and_value) ∙ sym (ap length at.fields)
-        ∙ length-map (take found.headers spans) (header_bytes head) ∙ length-take found.headers spans in
+    ∙ length-map (take found.headers spans) (header_bytes head) ∙ length-take found.headers spans in
     let fields : length h.fields ≤ 100 = omega arith in
     let same : reply ≡ reply_of h = λ i. record { status = (status ∙ at.code) i; headers = (headers ∙ at.fields) i; body = none i } in
     inl (

@@ -74,7 +74,7 @@ one_end head_only (suc n) (suc m) p bytes q r rest last s t x a i y b j =
     let phase : x.0 ≡ y.0 = cc in
     let count : x.1 ≡ y.1 = cc in
     let tail = subst (λ o. Moves head_only m o (drop x.1 bytes) r last) (sym phase)
-        (subst (λ k. Moves head_only m y.0 (drop k bytes) r last) (sym count) y.3) in
+    (subst (λ k. Moves head_only m y.0 (drop k bytes) r last) (sym count) y.3) in
     one_end head_only n m x.0 (drop x.1 bytes) q r rest last s t x.3 a i tail b j
 
 pub one_stop : (head_only : Bool) (p : Phase) (bytes : List ℕ) (q r : Phase) (rest last : List ℕ) (s t : Step)

@@ -97,7 +97,7 @@ one_end head_only received ended fault a b (inr (inr x)) (inr (inl y)) =
 one_end head_only received ended fault a b (inr (inr x)) (inr (inr y)) =
     let same = one_wait head_only (heads 0) received x.0 y.0 x.1 y.1 x.2.0 y.2.0 in
     let cause = subst (λ q. EndsAs q x.1 ended fault b) (sym same.0)
-        (subst (λ rest. EndsAs y.0 rest ended fault b) (sym same.1) y.3) in
+    (subst (λ rest. EndsAs y.0 rest ended fault b) (sym same.1) y.3) in
     one_cause x.0 x.1 ended fault a b x.3 cause
 
 joined : (head_only : Bool) (received : List ℕ) (ended : Bool) (fault : Option LinkFault) (a b : Outcome)

@@ -173,8 +173,8 @@ length-head h =
     ap length (sym (append-nil (print_response h)) ∙ head-lines h [])
     ∙ length-append (print_blank h.blank) (status_text h ++ (print_end h.line_end ++ section))
     ∙ ap (λ n. length (print_blank h.blank) + n) (length-append (status_text h) (print_end h.line_end ++ section)
-        ∙ ap (λ n. length (status_text h) + n) (length-append (print_end h.line_end) section
-            ∙ ap (λ s. length (print_end h.line_end) + length s) (append-nil (print_section h.fields h.last))))
+    ∙ ap (λ n. length (status_text h) + n) (length-append (print_end h.line_end) section
+    ∙ ap (λ s. length (print_end h.line_end) + length s) (append-nil (print_section h.fields h.last))))
 
 HasNoFeed-reason : (reason : Option (List ℕ)) → AllPass is_value_byte (reason_phrase reason) → HasNoFeed (print_reason reason)
 HasNoFeed-reason None all = tt
@@ -219,7 +219,7 @@ head_end-printed h rest x =
     ap head_end (head-lines h rest)
     ∙ after_blank h.blank (status_text h ++ after) x.blank (empty_line-status h after)
     ∙ ap (option_map (λ k. k + length (print_blank h.blank)))
-        (head_end-section h.fields x.valid.fields h.last rest (status_text h) (HasNoFeed-status h x.valid) h.line_end)
+    (head_end-section h.fields x.valid.fields h.last rest (status_text h) (HasNoFeed-status h x.valid) h.line_end)
     ∙ ap Some (omega arith)
 
 -- ---- line feeds
@@ -273,5 +273,5 @@ feeds-head h x =
     ap feeds (sym (append-nil (print_response h)) ∙ head-lines h [])
     ∙ feeds-append (print_blank h.blank) (status_text h ++ lines)
     ∙ ap (λ n. feeds (print_blank h.blank) + n) (feeds-append (status_text h) lines
-        ∙ ap (λ n. feeds (status_text h) + n) (feeds-append (print_end h.line_end) section))
+    ∙ ap (λ n. feeds (status_text h) + n) (feeds-append (print_end h.line_end) section))
     ∙ omega arith

@@ -43,12 +43,12 @@ head-does head_only used h rest x size =
     let few = x.few in
     let count = feeds-head h x.valid in
     let judged : JudgesHead head_only used (print_response h) step =
-        inl (h, ((x.valid, sym (append-nil (print_response h))), omega arith), refl) in
+    inl (h, ((x.valid, sym (append-nil (print_response h))), omega arith), refl) in
     let cut : MatchBool (leb (used + n) 65536 && leb (feeds (print_response h)) 102) (JudgesHead head_only used (print_response h) step) (step ≡ decide TooLarge) =
-        when_both _ _ _ _ (le_test _ _ size) (le_test (feeds (print_response h)) 102 (omega arith)) judged in
+    when_both _ _ _ _ (le_test _ _ size) (le_test (feeds (print_response h)) 102 (omega arith)) judged in
     subst (λ o. CutsHead head_only used (print_response h ++ rest) o step) (sym (head_end-printed h rest x))
     (subst (λ b. MatchBool (leb (used + n) 65536 && leb (feeds b) 102) (JudgesHead head_only used b step) (step ≡ decide TooLarge))
-        (sym (take_at (print_response h) rest n refl)) cut)
+    (sym (take_at (print_response h) rest n refl)) cut)
 
 -- a head that leads on
 head-leads : (head_only : Bool) (used : ℕ) (h : ResponseHead) (rest : List ℕ) (q : Phase) → IsPlainHead h → used + length (print_response h) ≤ 65536
@@ -58,7 +58,7 @@ head-leads head_only used h rest q x size e =
     let n = length (print_response h) in
     subst (λ b. Leads head_only (heads used) (print_response h ++ rest) q b) (drop_at (print_response h) rest n refl)
     (leads_one head_only (heads used) (print_response h ++ rest) q n
-        (subst (λ s. Does head_only (heads used) (print_response h ++ rest) s) e (head-does head_only used h rest x size)))
+    (subst (λ s. Does head_only (heads used) (print_response h ++ rest) s) e (head-does head_only used h rest x size)))
 
 interims-lead : (head_only : Bool) (hs : List ResponseHead) (used : ℕ) (rest : List ℕ) → All IsPlainHead hs → All (λ h. kind_after head_only h ≡ Interim) hs
     → used + length (flat_map print_response hs) ≤ 65536
@@ -74,12 +74,12 @@ interims-lead head_only (h ∷ hs) used rest plain interim size =
     let both = length-append (print_response h) more in
     let kind = All-head (λ i. kind_after head_only i ≡ Interim) h hs interim in
     let first = head-leads head_only used h (more ++ rest) (heads (used + n)) (All-head IsPlainHead h hs plain) (omega arith)
-        (ap (after_head used n (reply_of h)) kind) in
+    (ap (after_head used n (reply_of h)) kind) in
     let others = interims-lead head_only hs (used + n) rest (All-tail IsPlainHead h hs plain) (All-tail (λ i. kind_after head_only i ≡ Interim) h hs interim) (omega arith) in
     let total : used + n + length more ≡ used + length (print_response h ++ more) = omega arith in
     subst (λ b. Leads head_only (heads used) b (heads (used + length (print_response h ++ more))) rest) (sym (append_assoc (print_response h) more rest))
     (subst (λ k. Leads head_only (heads used) (print_response h ++ (more ++ rest)) (heads k) rest) total
-        (leads_join head_only (heads used) (print_response h ++ (more ++ rest)) (heads (used + n)) (more ++ rest) (heads (used + n + length more)) rest first others))
+    (leads_join head_only (heads used) (print_response h ++ (more ++ rest)) (heads (used + n)) (more ++ rest) (heads (used + n + length more)) rest first others))
 
 -- ---- chunks
 
@@ -115,7 +115,7 @@ line-does head_only reply used l rest x short =
     let judged : JudgesLine reply used (print_chunk_line l) step = inl (l, (x, sym (append-nil (print_chunk_line l))), refl) in
     subst (λ o. CutsLine reply used (print_chunk_line l ++ rest) o step) (sym (line_end-chunk l rest x))
     (subst (λ b. MatchBool (leb n 4096) (JudgesLine reply used b step) (step ≡ decide TooLarge)) (sym (take_at (print_chunk_line l) rest n refl))
-        (when_true _ _ _ (le_test _ _ short) judged))
+    (when_true _ _ _ (le_test _ _ short) judged))
 
 -- a line that leads on
 line-leads : (head_only : Bool) (reply : Reply) (used : ℕ) (l : ChunkLine) (rest : List ℕ) (q : Phase) → IsChunkLine l → length (print_chunk_line l) ≤ 4096
@@ -125,7 +125,7 @@ line-leads head_only reply used l rest q x short e =
     let n = length (print_chunk_line l) in
     subst (λ b. Leads head_only (lines reply used) (print_chunk_line l ++ rest) q b) (drop_at (print_chunk_line l) rest n refl)
     (leads_one head_only (lines reply used) (print_chunk_line l ++ rest) q n
-        (subst (λ s. Does head_only (lines reply used) (print_chunk_line l ++ rest) s) e (line-does head_only reply used l rest x short)))
+    (subst (λ s. Does head_only (lines reply used) (print_chunk_line l ++ rest) s) e (line-does head_only reply used l rest x short)))
 
 to_chunk : (c d : Bool) (p q r : Step) → c ≡ false → d ≡ true → cond c p (cond d q r) ≡ q
 to_chunk true d p q r e f = cc
@@ -147,8 +147,8 @@ data-leads head_only reply used bytes rest =
     let left = drop_at bytes (crlf_bytes ++ rest) n refl in
     let gone : drop (n + 2) all ≡ rest = sym (drop-drop 2 n all) ∙ ap (drop 2) left in
     let does : Does head_only (chunk reply used n) all (move (lines (with_more reply bytes) used) (n + 2)) =
-        ap (λ b. move (lines (with_more reply b) used) (n + 2)) (sym taken)
-        ∙ ap (after_chunk (move (lines (with_more reply (take n all)) used) (n + 2))) (sym left) in
+    ap (λ b. move (lines (with_more reply b) used) (n + 2)) (sym taken)
+    ∙ ap (after_chunk (move (lines (with_more reply (take n all)) used) (n + 2))) (sym left) in
     subst (λ b. Leads head_only (chunk reply used n) all (lines (with_more reply bytes) used) b) gone
     (leads_one head_only (chunk reply used n) all (lines (with_more reply bytes) used) (n + 2) does)
 
@@ -158,12 +158,12 @@ chunk-leads head_only reply used c rest x room =
     let n = length c.bytes in
     let content = c.bytes ++ (crlf_bytes ++ rest) in
     let first = line-leads head_only reply used c.line content (chunk reply used n) x.valid x.short
-        (after_some reply used (length (print_chunk_line c.line)) n (chunk_size c.line) x.size x.some room) in
+    (after_some reply used (length (print_chunk_line c.line)) n (chunk_size c.line) x.size x.some room) in
     let joined : print_chunk c ++ rest ≡ print_chunk_line c.line ++ content =
-        append_assoc (print_chunk_line c.line) (c.bytes ++ crlf_bytes) rest ∙ ap (λ b. print_chunk_line c.line ++ b) (append_assoc c.bytes crlf_bytes rest) in
+    append_assoc (print_chunk_line c.line) (c.bytes ++ crlf_bytes) rest ∙ ap (λ b. print_chunk_line c.line ++ b) (append_assoc c.bytes crlf_bytes rest) in
     subst (λ b. Leads head_only (lines reply used) b (lines (with_more reply c.bytes) used) rest) (sym joined)
     (leads_join head_only (lines reply used) (print_chunk_line c.line ++ content) (chunk reply used n) content (lines (with_more reply c.bytes) used) rest first
-        (data-leads head_only reply used c.bytes rest))
+    (data-leads head_only reply used c.bytes rest))
 
 abbrev bytes_of : List Chunk → List ℕ
 bytes_of cs = flat_map (λ c. c.bytes) cs
@@ -188,8 +188,8 @@ chunks-lead head_only (c ∷ cs) reply used rest all room =
     subst (λ b. Leads head_only (lines reply used) b (lines (with_more reply (c.bytes ++ bytes_of cs)) used) rest)
     (sym (append_assoc (print_chunk c) (flat_map print_chunk cs) rest))
     (subst (λ r. Leads head_only (lines reply used) (print_chunk c ++ more) (lines r used) rest) (more_and_more reply c.bytes (bytes_of cs))
-        (leads_join head_only (lines reply used) (print_chunk c ++ more) (lines (with_more reply c.bytes) used) more
-            (lines (with_more (with_more reply c.bytes) (bytes_of cs)) used) rest first others))
+    (leads_join head_only (lines reply used) (print_chunk c ++ more) (lines (with_more reply c.bytes) used) more
+    (lines (with_more (with_more reply c.bytes) (bytes_of cs)) used) rest first others))
 
 -- ---- trailers
 
@@ -237,9 +237,9 @@ section-ends head_only (f ∷ fields) last reply used rest all size =
     let follows = ap is_some (empty_line-field f (print_end f.end) field) in
     let step = trailer-skips (leb (used + n) 65536) (is_some (empty_line line)) (decide (Whole reply)) (move (trailers reply (used + n)) n) (decide TooLarge) (le_test _ _ (omega arith)) follows in
     let does : Does head_only (trailers reply used) (line ++ more) (move (trailers reply (used + n)) n) =
-        trailer-step-is reply used line more (move (trailers reply (used + n)) n) (field-line-ends f more field) step in
+    trailer-step-is reply used line more (move (trailers reply (used + n)) n) (field-line-ends f more field) step in
     let first = subst (λ b. Leads head_only (trailers reply used) (line ++ more) (trailers reply (used + n)) b) (drop_at line more n refl)
-        (leads_one head_only (trailers reply used) (line ++ more) (trailers reply (used + n)) n does) in
+    (leads_one head_only (trailers reply used) (line ++ more) (trailers reply (used + n)) n does) in
     let others = section-ends head_only fields last reply (used + n) rest (All-tail IsField f fields all) (omega arith) in
     let joined = section-cons f fields last rest ∙ sym (append_assoc (field_text f) (print_end f.end) more) in
     subst (λ b. Decides head_only (trailers reply used) b (Whole reply)) (sym joined)
@@ -256,15 +256,15 @@ body-ends : (head_only : Bool) (h : ResponseHead) (body : Body) (used : ℕ) →
 body-ends head_only h none used x kind size room =
     let n = length (print_response h) in
     let does = subst (λ s. Does head_only (heads used) (print_response h ++ []) s) (ap (after_head used n (reply_of h)) kind)
-        (head-does head_only used h [] x (omega arith)) in
+    (head-does head_only used h [] x (omega arith)) in
     (heads used, print_response h ++ [], leads_none head_only (heads used) (print_response h ++ []), does)
 body-ends head_only h (sized bytes) used x kind size room =
     let n = length (print_response h) in
     let first = head-leads head_only used h bytes (fixed (reply_of h) (length bytes)) x (omega arith) (ap (after_head used n (reply_of h)) kind) in
     let taken = subst (λ b. take (length bytes) b ≡ bytes) (append-nil bytes) (take_at bytes [] (length bytes) refl) in
     let does : Does head_only (fixed (reply_of h) (length bytes)) bytes (decide (Whole (with_more (reply_of h) bytes))) =
-        ap (λ b. decide (Whole (with_more (reply_of h) b))) (sym taken)
-        ∙ ap (λ c. cond c (decide (Whole (with_more (reply_of h) (take (length bytes) bytes)))) wait) (sym (le_test (length bytes) (length bytes) (omega arith))) in
+    ap (λ b. decide (Whole (with_more (reply_of h) b))) (sym taken)
+    ∙ ap (λ c. cond c (decide (Whole (with_more (reply_of h) (take (length bytes) bytes)))) wait) (sym (le_test (length bytes) (length bytes) (omega arith))) in
     (fixed (reply_of h) (length bytes), bytes, first, does)
 body-ends head_only h (chunked chunks last section end) used x kind size room =
     let n = length (print_response h) in
@@ -275,12 +275,12 @@ body-ends head_only h (chunked chunks last section end) used x kind size room =
     let first = head-leads head_only used h text (lines (reply_of h) all) x (omega arith) (ap (after_head used n (reply_of h)) kind.0) in
     let middle = chunks-lead head_only chunks (reply_of h) all tail kind.1 (omega arith) in
     let line = line-leads head_only reply all last (print_section section end) (trailers reply all) kind.2 kind.3
-        (to_trailers reply all (length (print_chunk_line last)) (chunk_size last) kind.4) in
+    (to_trailers reply all (length (print_chunk_line last)) (chunk_size last) kind.4) in
     let trailing = subst (λ b. Decides head_only (trailers reply all) b (Whole reply)) (append-nil (print_section section end))
-        (section-ends head_only section end reply all [] kind.5 size) in
+    (section-ends head_only section end reply all [] kind.5 size) in
     decides_after head_only (heads used) (print_response h ++ text) (lines (reply_of h) all) text (Whole reply) first
     (decides_after head_only (lines (reply_of h) all) text (lines reply all) tail (Whole reply) middle
-        (decides_after head_only (lines reply all) tail (trailers reply all) (print_section section end) (Whole reply) line trailing))
+    (decides_after head_only (lines reply all) tail (trailers reply all) (print_section section end) (Whole reply) line trailing))
 
 pub printed_is_whole : PrintedIsWhole
 printed_is_whole head_only r more ended fault x =

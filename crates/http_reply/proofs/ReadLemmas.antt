@@ -102,5 +102,5 @@ past_all head_only received piece front n q rest front_is size more x =
     let both = length-append received front in
     let whole = length-append received piece in
     let all_seen : seen (received ++ piece) ≡ received ++ front =
-        ap seen (sym joined) ∙ take_at (received ++ front) (drop n piece) 268435456 (omega arith) in
+    ap seen (sym joined) ∙ take_at (received ++ front) (drop n piece) 268435456 (omega arith) in
     ((q, rest, subst (λ b. IsWaiting head_only b q rest) (sym all_seen) x), omega arith)

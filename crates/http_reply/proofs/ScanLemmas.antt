@@ -80,8 +80,8 @@ scanned_head head_only used bytes more x =
     let none = none_where_head_waits head_only used bytes (head_end bytes) x in
     elim (cases_lt (length bytes) 2) [
       | inl short ↦
-        let start : length bytes - 2 ≡ 0 = omega arith in
-        subst (λ k. IsScanned (due.Heads used) (bytes ++ more) k) (sym start) (unshifted (head_end (bytes ++ more)))
+          let start : length bytes - 2 ≡ 0 = omega arith in
+          subst (λ k. IsScanned (due.Heads used) (bytes ++ more) k) (sym start) (unshifted (head_end (bytes ++ more)))
       | inr long ↦ head_end_from (length bytes - 2) bytes more (omega arith) none
     ]
 

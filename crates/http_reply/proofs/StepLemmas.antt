@@ -110,7 +110,7 @@ stays_head head_only used bytes more (Some n) None s later x go = absurd later
 stays_head head_only used bytes more (Some n) (Some m) s later x go =
     subst (λ k. CutsHead head_only used (bytes ++ more) (Some k) s) (sym later.0)
     (subst (λ cut. MatchBool (leb (used + n) 65536 && leb (count_by (λ b. eqb b 10) cut) 102) (JudgesHead head_only used cut s) (s ≡ decide TooLarge))
-        (sym (take-append-le n bytes more later.1)) x)
+    (sym (take-append-le n bytes more later.1)) x)
 
 stays_line : (reply : Reply) (used : ℕ) (bytes more : List ℕ) (o o' : Option ℕ) (s : Step)
     → Later (length bytes) o o' → CutsLine reply used bytes o s → IsSettled s
@@ -126,7 +126,7 @@ stays_line reply used bytes more (Some n) None s later x go = absurd later
 stays_line reply used bytes more (Some n) (Some m) s later x go =
     subst (λ k. CutsLine reply used (bytes ++ more) (Some k) s) (sym later.0)
     (subst (λ cut. MatchBool (leb n 4096) (JudgesLine reply used cut s) (s ≡ decide TooLarge))
-        (sym (take-append-le n bytes more later.1)) x)
+    (sym (take-append-le n bytes more later.1)) x)
 
 stays_trailer : (reply : Reply) (used : ℕ) (bytes more : List ℕ) (o o' : Option ℕ) (s : Step)
     → Later (length bytes) o o' → s ≡ trailer_step reply used bytes o → IsSettled s

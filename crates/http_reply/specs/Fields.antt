@@ -8,7 +8,7 @@ use Rattle.httparse.specs.Spans.{header_bytes}
 abbrev pub named : List ℕ → List (List ℕ × List ℕ) → List (List ℕ)
 named name [] = []
 named name (field ∷ fields) =
-  if str_eq_ignore_ascii_case field.0 name then field.1 ∷ named name fields else named name fields
+    if str_eq_ignore_ascii_case field.0 name then field.1 ∷ named name fields else named name fields
 
 -- the first of a list
 abbrev pub first_of : {A : Type 0} → List A → Option A

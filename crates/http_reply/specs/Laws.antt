@@ -12,11 +12,11 @@ IsSame a b = (a ≡ b) ⊎ ((a ≡ OutOfMemory) ⊎ (b ≡ OutOfMemory))
 -- the bytes received, the end and the fault have one outcome
 abbrev pub HasOneOutcome : Type 0
 HasOneOutcome =
-  (head_only : Bool) (received : List ℕ) (ended : Bool) (fault : Option LinkFault) (a b : Outcome)
-  → IsOutcome head_only received ended fault a → IsOutcome head_only received ended fault b → IsSame a b
+    (head_only : Bool) (received : List ℕ) (ended : Bool) (fault : Option LinkFault) (a b : Outcome)
+    → IsOutcome head_only received ended fault a → IsOutcome head_only received ended fault b → IsSame a b
 
 -- an outcome that bytes have while the peer goes on stays, whatever follows them
 abbrev pub FrontDecides : Type 0
 FrontDecides =
-  (head_only : Bool) (front more : List ℕ) (ended : Bool) (fault : Option LinkFault) (outcome : Outcome)
-  → IsOutcome head_only front false None outcome → IsOutcome head_only (front ++ more) ended fault outcome
+    (head_only : Bool) (front more : List ℕ) (ended : Bool) (fault : Option LinkFault) (outcome : Outcome)
+    → IsOutcome head_only front false None outcome → IsOutcome head_only (front ++ more) ended fault outcome

@@ -55,36 +55,36 @@ after_head used size reply Big = decide TooLarge
 -- a head is malformed unless the grammar reads exactly its bytes
 abbrev pub JudgesHead : Bool → ℕ → List ℕ → Step → Type 0
 JudgesHead head_only used head step =
-  ((h : ResponseHead) × ReadsHead head h × (step ≡ after_head used (length head) (reply_of h) (kind_of head_only (reply_of h).status (reply_of h).headers)))
-  ⊎ (((h : ResponseHead) → ReadsHead head h → ⊥) × (step ≡ decide Malformed))
+    ((h : ResponseHead) × ReadsHead head h × (step ≡ after_head used (length head) (reply_of h) (kind_of head_only (reply_of h).status (reply_of h).headers)))
+    ⊎ (((h : ResponseHead) → ReadsHead head h → ⊥) × (step ≡ decide Malformed))
 
 -- a head is awaited up to its limit; it is judged at its end, if it isn't too large
 abbrev pub CutsHead : Bool → ℕ → List ℕ → Option ℕ → Step → Type 0
 CutsHead head_only used bytes None step =
-  step ≡ (if nat_le (used + length bytes) HEAD_LIMIT then wait else decide TooLarge)
+    step ≡ (if nat_le (used + length bytes) HEAD_LIMIT then wait else decide TooLarge)
 CutsHead head_only used bytes (Some n) step =
-  MatchBool (nat_le (used + n) HEAD_LIMIT && nat_le (count_by (λ b. b == line_feed) (take n bytes)) LINE_LIMIT)
-  (JudgesHead head_only used (take n bytes) step)
-  (step ≡ decide TooLarge)
+    MatchBool (nat_le (used + n) HEAD_LIMIT && nat_le (count_by (λ b. b == line_feed) (take n bytes)) LINE_LIMIT)
+    (JudgesHead head_only used (take n bytes) step)
+    (step ≡ decide TooLarge)
 
 -- the last chunk has no bytes; another must not take the body past its limit
 abbrev pub after_line : Reply → ℕ → ℕ → ℕ → Step
 after_line reply used size n =
-  if n == 0 then move (trailers reply used) size
-  else (if nat_le (length reply.body + n) BODY_LIMIT then move (chunk reply used n) size else decide TooLarge)
+    if n == 0 then move (trailers reply used) size
+    else (if nat_le (length reply.body + n) BODY_LIMIT then move (chunk reply used n) size else decide TooLarge)
 
 -- a chunk line is malformed unless the grammar reads exactly its bytes
 abbrev pub JudgesLine : Reply → ℕ → List ℕ → Step → Type 0
 JudgesLine reply used line step =
-  ((l : ChunkLine) × ReadsChunkLine line l [] × (step ≡ after_line reply used (length line) (chunk_size l)))
-  ⊎ (((l : ChunkLine) → ReadsChunkLine line l [] → ⊥) × (step ≡ decide Malformed))
+    ((l : ChunkLine) × ReadsChunkLine line l [] × (step ≡ after_line reply used (length line) (chunk_size l)))
+    ⊎ (((l : ChunkLine) → ReadsChunkLine line l [] → ⊥) × (step ≡ decide Malformed))
 
 -- a chunk line is awaited up to its limit, and judged at its end
 abbrev pub CutsLine : Reply → ℕ → List ℕ → Option ℕ → Step → Type 0
 CutsLine reply used bytes None step =
-  step ≡ (if nat_le (length bytes) CHUNK_LINE_LIMIT then wait else decide TooLarge)
+    step ≡ (if nat_le (length bytes) CHUNK_LINE_LIMIT then wait else decide TooLarge)
 CutsLine reply used bytes (Some n) step =
-  MatchBool (nat_le n CHUNK_LINE_LIMIT) (JudgesLine reply used (take n bytes) step) (step ≡ decide TooLarge)
+    MatchBool (nat_le n CHUNK_LINE_LIMIT) (JudgesLine reply used (take n bytes) step) (step ≡ decide TooLarge)
 
 -- CR LF must follow a chunk
 abbrev pub after_chunk : Step → List ℕ → Step
@@ -95,21 +95,21 @@ after_chunk next (b ∷ (c ∷ bytes)) = if b == carriage_return && c == line_fe
 -- trailer lines are skipped, up to an empty one, and count as the heads do
 abbrev pub trailer_step : Reply → ℕ → List ℕ → Option ℕ → Step
 trailer_step reply used bytes None =
-  if nat_le (used + length bytes) HEAD_LIMIT then wait else decide TooLarge
+    if nat_le (used + length bytes) HEAD_LIMIT then wait else decide TooLarge
 trailer_step reply used bytes (Some n) =
-  if nat_le (used + n) HEAD_LIMIT
-  then (if is_some (empty_line (take n bytes)) then decide (Whole reply) else move (trailers reply (used + n)) n)
-  else decide TooLarge
+    if nat_le (used + n) HEAD_LIMIT
+    then (if is_some (empty_line (take n bytes)) then decide (Whole reply) else move (trailers reply (used + n)) n)
+    else decide TooLarge
 
 -- a body of a known length is awaited, and ends the reply
 abbrev pub fixed_step : Reply → ℕ → List ℕ → Step
 fixed_step reply size bytes =
-  if nat_le size (length bytes) then decide (Whole (with_more reply (take size bytes))) else wait
+    if nat_le size (length bytes) then decide (Whole (with_more reply (take size bytes))) else wait
 
 -- a chunk joins the body
 abbrev pub chunk_step : Reply → ℕ → ℕ → List ℕ → Step
 chunk_step reply used size bytes =
-  after_chunk (move (lines (with_more reply (take size bytes)) used) (size + 2)) (drop size bytes)
+    after_chunk (move (lines (with_more reply (take size bytes)) used) (size + 2)) (drop size bytes)
 
 -- a body that lasts until the peer ends is awaited up to its limit
 abbrev pub to_end_step : List ℕ → Step
@@ -128,7 +128,7 @@ Does head_only (to_end reply) bytes step = step ≡ to_end_step bytes
 abbrev pub Moves : Bool → ℕ → Phase → List ℕ → Phase → List ℕ → Type 0
 Moves head_only zero p bytes q rest = (p ≡ q) × (bytes ≡ rest)
 Moves head_only (suc n) p bytes q rest =
-  (m : Phase) × (k : ℕ) × Does head_only p bytes (move m k) × Moves head_only n m (drop k bytes) q rest
+    (m : Phase) × (k : ℕ) × Does head_only p bytes (move m k) × Moves head_only n m (drop k bytes) q rest
 
 -- some moves do
 abbrev pub Leads : Bool → Phase → List ℕ → Phase → List ℕ → Type 0
@@ -137,7 +137,7 @@ Leads head_only p bytes q rest = (n : ℕ) × Moves head_only n p bytes q rest
 -- from a phase on, the bytes decide the outcome
 abbrev pub Decides : Bool → Phase → List ℕ → Outcome → Type 0
 Decides head_only p bytes outcome =
-  (q : Phase) × (rest : List ℕ) × Leads head_only p bytes q rest × Does head_only q rest (decide outcome)
+    (q : Phase) × (rest : List ℕ) × Leads head_only p bytes q rest × Does head_only q rest (decide outcome)
 
 -- from a phase on, the bytes leave this phase waiting for more, with these not yet taken
 abbrev pub Awaits : Bool → Phase → List ℕ → Phase → List ℕ → Type 0

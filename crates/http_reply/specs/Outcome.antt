@@ -18,7 +18,7 @@ HasVerdict head_only received outcome = Decides head_only (heads 0) (seen receiv
 -- no front of the bytes decides: this is due, and these are not yet taken
 abbrev pub IsWaiting : Bool → List ℕ → Phase → List ℕ → Type 0
 IsWaiting head_only received q rest =
-  Awaits head_only (heads 0) received q rest × (length received ≤ TOTAL_LIMIT)
+    Awaits head_only (heads 0) received q rest × (length received ≤ TOTAL_LIMIT)
 
 -- no front of the bytes decides
 abbrev pub Waits : Bool → List ℕ → Type 0
@@ -40,14 +40,14 @@ HasEnded ended fault = (ended ≡ true) × (fault ≡ None)
 -- the outcome of the bytes received, whether the peer ended, and the fault. OutOfMemory may come of all
 abbrev pub IsOutcome : Bool → List ℕ → Bool → Option LinkFault → Outcome → Type 0
 IsOutcome head_only received ended fault (Whole reply) =
-  HasVerdict head_only received (Whole reply)
-  ⊎ ((start : Reply) × (body : List ℕ) × IsWaiting head_only received (to_end start) body × HasEnded ended fault × (reply ≡ with_more start body))
+    HasVerdict head_only received (Whole reply)
+    ⊎ ((start : Reply) × (body : List ℕ) × IsWaiting head_only received (to_end start) body × HasEnded ended fault × (reply ≡ with_more start body))
 IsOutcome head_only received ended fault Malformed = HasVerdict head_only received Malformed
 IsOutcome head_only received ended fault TooLarge =
-  HasVerdict head_only received TooLarge ⊎ (Waits head_only (seen received) × (TOTAL_LIMIT < length received))
+    HasVerdict head_only received TooLarge ⊎ (Waits head_only (seen received) × (TOTAL_LIMIT < length received))
 IsOutcome head_only received ended fault (Lost kind) = Waits head_only received × (fault ≡ Some kind)
 IsOutcome head_only received ended fault Cut =
-  (q : Phase) × (rest : List ℕ) × IsWaiting head_only received q rest × IsCutIn q × HasEnded ended fault
+    (q : Phase) × (rest : List ℕ) × IsWaiting head_only received q rest × IsCutIn q × HasEnded ended fault
 IsOutcome head_only received ended fault OutOfMemory = Unit {0}
 
 -- the names and values of the headers together, in characters

@@ -33,7 +33,7 @@ abbrev pub print_body : Body → List ℕ
 print_body none = []
 print_body (sized bytes) = bytes
 print_body (chunked chunks last trailers end) =
-  flat_map print_chunk chunks ++ (print_chunk_line last ++ print_section trailers end)
+    flat_map print_chunk chunks ++ (print_chunk_line last ++ print_section trailers end)
 
 -- the body itself
 abbrev pub body_bytes : Body → List ℕ
@@ -78,9 +78,9 @@ abbrev pub IsBodyOf : Kind → Body → Type 0
 IsBodyOf kind none = kind ≡ NoBody
 IsBodyOf kind (sized bytes) = kind ≡ Fixed (length bytes)
 IsBodyOf kind (chunked chunks last trailers end) =
-  (kind ≡ Chunked) × All IsChunk chunks
-  × IsChunkLine last × (length (print_chunk_line last) ≤ CHUNK_LINE_LIMIT) × (chunk_size last ≡ 0)
-  × All IsField trailers
+    (kind ≡ Chunked) × All IsChunk chunks
+    × IsChunkLine last × (length (print_chunk_line last) ≤ CHUNK_LINE_LIMIT) × (chunk_size last ≡ 0)
+    × All IsField trailers
 
 -- a reply to a method that is HEAD or another, within the limits
 pub record IsPrinted (head_only : Bool) (r : PrintedReply) : Type 0 where
@@ -95,16 +95,16 @@ pub record IsPrinted (head_only : Bool) (r : PrintedReply) : Type 0 where
 -- a reply that the grammar prints is answered as whole, whatever follows
 abbrev pub PrintedIsWhole : Type 0
 PrintedIsWhole =
-  (head_only : Bool) (r : PrintedReply) (more : List ℕ) (ended : Bool) (fault : Option LinkFault)
-  → IsPrinted head_only r
-  → IsOutcome head_only (print_reply r ++ more) ended fault (Whole (with_more (reply_of r.head) (body_bytes r.body)))
+    (head_only : Bool) (r : PrintedReply) (more : List ℕ) (ended : Bool) (fault : Option LinkFault)
+    → IsPrinted head_only r
+    → IsOutcome head_only (print_reply r ++ more) ended fault (Whole (with_more (reply_of r.head) (body_bytes r.body)))
 
 -- a reply whose body lasts until the peer ends is answered as whole at that end
 abbrev pub EndedIsWhole : Type 0
 EndedIsWhole =
-  (head_only : Bool) (interims : List ResponseHead) (h : ResponseHead) (bytes : List ℕ)
-  → All IsPlainHead interims → All (λ i. kind_after head_only i ≡ Interim) interims
-  → IsPlainHead h → kind_after head_only h ≡ ToEnd
-  → length (flat_map print_response interims) + length (print_response h) ≤ HEAD_LIMIT
-  → length bytes ≤ BODY_LIMIT
-  → IsOutcome head_only (flat_map print_response interims ++ (print_response h ++ bytes)) true None (Whole (with_more (reply_of h) bytes))
+    (head_only : Bool) (interims : List ResponseHead) (h : ResponseHead) (bytes : List ℕ)
+    → All IsPlainHead interims → All (λ i. kind_after head_only i ≡ Interim) interims
+    → IsPlainHead h → kind_after head_only h ≡ ToEnd
+    → length (flat_map print_response interims) + length (print_response h) ≤ HEAD_LIMIT
+    → length bytes ≤ BODY_LIMIT
+    → IsOutcome head_only (flat_map print_response interims ++ (print_response h ++ bytes)) true None (Whole (with_more (reply_of h) bytes))

@@ -73,10 +73,10 @@ by_chunk_end next Missing = decide Malformed
 -- what bytes made of the reply, from a phase on
 abbrev pub Reaches : Bool → Phase → List ℕ → Reply → Reached → Type 0
 Reaches head_only p bytes reply (reached.Waits due at) =
-  Awaits head_only p bytes (phase_of due reply) (drop at bytes) × Fits due reply × (at ≤ length bytes)
+    Awaits head_only p bytes (phase_of due reply) (drop at bytes) × Fits due reply × (at ≤ length bytes)
 Reaches head_only p bytes reply reached.Whole = Decides head_only p bytes (Whole reply) × IsSmall (Whole reply)
 Reaches head_only p bytes reply (reached.WholeWith at size) =
-  Decides head_only p bytes (Whole (with_more reply (take size (drop at bytes))))
-  × (HasSmallHead reply × HasNoBody reply × (at + size ≤ length bytes) × (size ≤ BODY_LIMIT))
+    Decides head_only p bytes (Whole (with_more reply (take size (drop at bytes))))
+    × (HasSmallHead reply × HasNoBody reply × (at + size ≤ length bytes) × (size ≤ BODY_LIMIT))
 Reaches head_only p bytes reply reached.Malformed = Decides head_only p bytes Malformed
 Reaches head_only p bytes reply reached.TooLarge = Decides head_only p bytes TooLarge

@@ -3,6 +3,7 @@ ghost use Rattle.std.specs.Prelude.{◌≡◌, ◌+◌, ◌≤◌, drop, option_
 ghost use Rattle.http_reply.specs.Cuts.{empty_line, head_end, line_end};
 
 pub(crate) const CARRIAGE_RETURN: u8 = b'\r';
+
 pub(crate) const LINE_FEED: u8 = b'\n';
 
 /// The length of the empty line that begins at an index.

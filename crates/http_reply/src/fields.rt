@@ -23,7 +23,11 @@ fn is_named(bytes: &[u8], field: &HeaderSpan, name: &[u8]) -> bool
 }
 
 /// The first value of a name.
-pub(crate) fn first_named<'a>(bytes: &'a [u8], fields: &[HeaderSpan], name: &[u8]) -> Option<&'a [u8]>
+pub(crate) fn first_named<'a>(
+    bytes: &'a [u8],
+    fields: &[HeaderSpan],
+    name: &[u8],
+) -> Option<&'a [u8]>
     requires { All (IsHeaderWithin (length bytes.now)) fields.now }
     ensures { option_copied result ≡ first_of (named name.now (fields_in bytes.now fields.now)) }
 {
@@ -42,7 +46,9 @@ pub(crate) fn are_chunked(bytes: &[u8], fields: &[HeaderSpan]) -> bool
         (named (codes "transfer-encoding") (fields_in bytes.now fields.now)) }
 {
     for field in fields {
-        if is_named(bytes, field, b"transfer-encoding") && !is_word(field.value.of(bytes), b"chunked") {
+        if is_named(bytes, field, b"transfer-encoding")
+            && !is_word(field.value.of(bytes), b"chunked")
+        {
             return false;
         }
     }

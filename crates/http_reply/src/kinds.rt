@@ -43,7 +43,11 @@ pub(crate) fn kind_of(head_only: bool, status: u16, bytes: &[u8], fields: &[Head
     if first_named(bytes, fields, b"transfer-encoding").is_none() {
         return kind_by_length(bytes, fields);
     }
-    if are_chunked(bytes, fields) { Kind::Chunked } else { Kind::Malformed }
+    if are_chunked(bytes, fields) {
+        Kind::Chunked
+    } else {
+        Kind::Malformed
+    }
 }
 
 /// By the values of Content-Length.
@@ -55,7 +59,11 @@ fn kind_by_length(bytes: &[u8], fields: &[HeaderSpan]) -> Kind
     let Some(value) = first_named(bytes, fields, b"content-length") else {
         return Kind::ToEnd;
     };
-    if are_copies(bytes, fields, value) { kind_by_number(value) } else { Kind::Malformed }
+    if are_copies(bytes, fields, value) {
+        kind_by_number(value)
+    } else {
+        Kind::Malformed
+    }
 }
 
 fn kind_by_number(value: &[u8]) -> Kind
@@ -78,7 +86,13 @@ fn number(value: &[u8]) -> Option<usize>
         if !b.is_ascii_digit() {
             return None;
         }
-        size = size.saturating_mul(10).saturating_add(usize::from(*b - b'0'));
+        size = size
+            .saturating_mul(10)
+            .saturating_add(usize::from(*b - b'0'));
     }
-    if value.is_empty() || size >= 1 << 63 { None } else { Some(size) }
+    if value.is_empty() || size >= 1 << 63 {
+        None
+    } else {
+        Some(size)
+    }
 }

@@ -5,23 +5,19 @@ ghost use Rattle.http_reply.specs.Printed.{PrintedIsWhole, EndedIsWhole};
 /// The bytes received, the end of the peer and the fault have one outcome.
 pub fn has_one_outcome()
     ensures { HasOneOutcome }
-{
-}
+{}
 
 /// The shortest front that decides is the outcome, and what follows changes nothing.
 pub fn front_decides()
     ensures { FrontDecides }
-{
-}
+{}
 
 /// A reply that the grammar prints, with no body, one by its length or one in chunks, is whole.
 pub fn printed_is_whole()
     ensures { PrintedIsWhole }
-{
-}
+{}
 
 /// A reply whose body lasts until the peer ends is whole at that end.
 pub fn ended_is_whole()
     ensures { EndedIsWhole }
-{
-}
+{}

@@ -154,7 +154,14 @@ impl ReplyReader {
         let from = scanned(self.due, self.rest.len());
         self.rest.extend_from_slice(piece)?;
         self.count += piece.len();
-        match advance(alloc, self.head_only, &self.rest, from, self.due, &mut self.reply)? {
+        match advance(
+            alloc,
+            self.head_only,
+            &self.rest,
+            from,
+            self.due,
+            &mut self.reply,
+        )? {
             Reached::Waits(due, at) => {
                 self.due = due;
                 cut_front(&mut self.rest, at);
@@ -201,7 +208,11 @@ impl ReplyReader {
         let Due::ToEnd = self.due else {
             return Outcome::Cut;
         };
-        let ReplyReader { mut reply, rest, .. } = self;
+        let ReplyReader {
+            mut reply,
+            rest,
+            ..
+        } = self;
         reply.body = Bytes::from_vec(rest);
         Outcome::Whole(reply)
     }

@@ -57,7 +57,11 @@ fn wait_within(size: usize, limit: usize) -> Stepped
     ensures step { (reply : Reply) (bytes : List ℕ) → step_of reply bytes result ≡ (if nat_le size limit then wait else decide TooLarge) }
     ensures fits { (reply : Reply) (bytes : List ℕ) → StepFits reply reply bytes result }
 {
-    if size <= limit { Stepped::Waits } else { Stepped::TooLarge }
+    if size <= limit {
+        Stepped::Waits
+    } else {
+        Stepped::TooLarge
+    }
 }
 
 /// After a head of `size` bytes, and `used` bytes of heads before.
@@ -113,7 +117,11 @@ fn fixed_step(rest: &[u8], size: usize, reply: &Reply) -> Stepped
     ensures step { step_of reply.now rest.now result ≡ fixed_step reply.now size rest.now }
     ensures fits { StepFits reply.now reply.now rest.now result }
 {
-    if size <= rest.len() { Stepped::WholeWith(size) } else { Stepped::Waits }
+    if size <= rest.len() {
+        Stepped::WholeWith(size)
+    } else {
+        Stepped::Waits
+    }
 }
 
 fn to_end_step(rest: &[u8], reply: &Reply) -> Stepped

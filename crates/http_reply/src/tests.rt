@@ -42,33 +42,90 @@ fn shown(alloc: Global, outcome: &Outcome) -> Result<String, AllocError> {
 
 /// Replies and what comes of each, to a method that isn't HEAD.
 const REPLIES: [(&[u8], &str); 28] = [
-    (b"HTTP/1.1 200 OK\r\nContent-Length: 5\r\n\r\nhello", "200 hello"),
-    (b"HTTP/1.1 200 OK\ncontent-length: 5\n\nhello, more", "200 hello"),
+    (
+        b"HTTP/1.1 200 OK\r\nContent-Length: 5\r\n\r\nhello",
+        "200 hello",
+    ),
+    (
+        b"HTTP/1.1 200 OK\ncontent-length: 5\n\nhello, more",
+        "200 hello",
+    ),
     (b"\r\nHTTP/1.1 200 OK\r\nContent-Length: 0\r\n\r\n", "200 "),
-    (b"\r\n\r\nHTTP/1.1 200 OK\r\nContent-Length: 0\r\n\r\n", "Malformed"),
+    (
+        b"\r\n\r\nHTTP/1.1 200 OK\r\nContent-Length: 0\r\n\r\n",
+        "Malformed",
+    ),
     (b"HTTP/1.1 200 OK\r\nContent-Length: 5\r\n\r\nhell", "Cut"),
     (b"", "Cut"),
     (b"HTTP/1.1 200 OK\r\n\r\nto the end", "200 to the end"),
     (b"HTTP/1.0 404 Not Found\r\n\r\n", "404 "),
     (b"HTTP/1.1 204 No Content\r\n\r\nrest", "204 "),
-    (b"HTTP/1.1 304 Not Modified\r\nContent-Length: 9\r\n\r\n", "304 "),
-    (b"HTTP/1.1 100 Continue\r\n\r\nHTTP/1.1 103 Early\r\nA: b\r\n\r\nHTTP/1.1 200 OK\r\nContent-Length: 1\r\n\r\nx", "200 x"),
+    (
+        b"HTTP/1.1 304 Not Modified\r\nContent-Length: 9\r\n\r\n",
+        "304 ",
+    ),
+    (
+        b"HTTP/1.1 100 Continue\r\n\r\nHTTP/1.1 103 Early\r\nA: b\r\n\r\nHTTP/1.1 200 OK\r\nContent-Length: 1\r\n\r\nx",
+        "200 x",
+    ),
     (b"HTTP/1.1 100 Continue\r\n\r\n", "Cut"),
-    (b"HTTP/1.1 200 OK\r\nContent-Length: 1\r\nContent-Length: 1\r\n\r\nx", "200 x"),
-    (b"HTTP/1.1 200 OK\r\nContent-Length: 1\r\nContent-Length: 01\r\n\r\nx", "Malformed"),
-    (b"HTTP/1.1 200 OK\r\nContent-Length: 00000000000000000000000000000001\r\n\r\nx", "200 x"),
+    (
+        b"HTTP/1.1 200 OK\r\nContent-Length: 1\r\nContent-Length: 1\r\n\r\nx",
+        "200 x",
+    ),
+    (
+        b"HTTP/1.1 200 OK\r\nContent-Length: 1\r\nContent-Length: 01\r\n\r\nx",
+        "Malformed",
+    ),
+    (
+        b"HTTP/1.1 200 OK\r\nContent-Length: 00000000000000000000000000000001\r\n\r\nx",
+        "200 x",
+    ),
     (b"HTTP/1.1 200 OK\r\nContent-Length: \r\n\r\n", "Malformed"),
-    (b"HTTP/1.1 200 OK\r\nContent-Length: +1\r\n\r\nx", "Malformed"),
-    (b"HTTP/1.1 200 OK\r\nContent-Length: 67108865\r\n\r\n", "TooLarge"),
-    (b"HTTP/1.1 200 OK\r\nContent-Length: 9223372036854775808\r\n\r\n", "Malformed"),
-    (b"HTTP/1.1 200 OK\r\nTransfer-Encoding: gzip\r\nContent-Length: 1\r\n\r\nx", "Malformed"),
-    (b"HTTP/1.1 200 OK\r\ntransfer-encoding: CHUNKED\r\nContent-Length: 9\r\n\r\n3;a=b\r\nabc\r\n2\r\nde\r\n0\r\n\r\n", "200 abcde"),
-    (b"HTTP/1.1 200 OK\r\nTransfer-Encoding: chunked\r\n\r\n3\r\nabc\r\n0\r\nTrailer: t\r\nOther\n\r\n", "200 abc"),
-    (b"HTTP/1.1 200 OK\r\nTransfer-Encoding: chunked\r\n\r\n3\r\nabc\r\n", "Cut"),
-    (b"HTTP/1.1 200 OK\r\nTransfer-Encoding: chunked\r\n\r\n3\r\nabcd\r\n", "Malformed"),
-    (b"HTTP/1.1 200 OK\r\nTransfer-Encoding: chunked\r\n\r\n3\nabc\r\n", "Malformed"),
-    (b"HTTP/1.1 200 OK\r\nTransfer-Encoding: chunked\r\n\r\n4000001\r\n", "TooLarge"),
-    (b"HTTP/1.1 200 OK\r\nTransfer-Encoding: chunked\r\n\r\n10000000000000000\r\n", "Malformed"),
+    (
+        b"HTTP/1.1 200 OK\r\nContent-Length: +1\r\n\r\nx",
+        "Malformed",
+    ),
+    (
+        b"HTTP/1.1 200 OK\r\nContent-Length: 67108865\r\n\r\n",
+        "TooLarge",
+    ),
+    (
+        b"HTTP/1.1 200 OK\r\nContent-Length: 9223372036854775808\r\n\r\n",
+        "Malformed",
+    ),
+    (
+        b"HTTP/1.1 200 OK\r\nTransfer-Encoding: gzip\r\nContent-Length: 1\r\n\r\nx",
+        "Malformed",
+    ),
+    (
+        b"HTTP/1.1 200 OK\r\ntransfer-encoding: CHUNKED\r\nContent-Length: 9\r\n\r\n3;a=b\r\nabc\r\n2\r\nde\r\n0\r\n\r\n",
+        "200 abcde",
+    ),
+    (
+        b"HTTP/1.1 200 OK\r\nTransfer-Encoding: chunked\r\n\r\n3\r\nabc\r\n0\r\nTrailer: t\r\nOther\n\r\n",
+        "200 abc",
+    ),
+    (
+        b"HTTP/1.1 200 OK\r\nTransfer-Encoding: chunked\r\n\r\n3\r\nabc\r\n",
+        "Cut",
+    ),
+    (
+        b"HTTP/1.1 200 OK\r\nTransfer-Encoding: chunked\r\n\r\n3\r\nabcd\r\n",
+        "Malformed",
+    ),
+    (
+        b"HTTP/1.1 200 OK\r\nTransfer-Encoding: chunked\r\n\r\n3\nabc\r\n",
+        "Malformed",
+    ),
+    (
+        b"HTTP/1.1 200 OK\r\nTransfer-Encoding: chunked\r\n\r\n4000001\r\n",
+        "TooLarge",
+    ),
+    (
+        b"HTTP/1.1 200 OK\r\nTransfer-Encoding: chunked\r\n\r\n10000000000000000\r\n",
+        "Malformed",
+    ),
     (b"HTTP/1.1 20 OK\r\n\r\n", "Malformed"),
 ];
 
@@ -89,13 +146,43 @@ const HEAD: &[u8] = b"HTTP/1.1 200 OK\r\n";
 /// Replies with a part that is repeated so many times, and what comes of each.
 const LONG_REPLIES: [(&[u8], &[u8], usize, &[u8], &str); 8] = [
     (b"HTTP/1.1 200 OK\r\nA: ", b"x", 65_512, b"\r\n\r\n", "200 "),
-    (b"HTTP/1.1 200 OK\r\nA: ", b"x", 65_513, b"\r\n\r\n", "TooLarge"),
+    (
+        b"HTTP/1.1 200 OK\r\nA: ",
+        b"x",
+        65_513,
+        b"\r\n\r\n",
+        "TooLarge",
+    ),
     (HEAD, b"A: b\r\n", 100, b"\r\n", "200 "),
     (HEAD, b"A: b\r\n", 101, b"\r\n", "TooLarge"),
-    (b"", b"HTTP/1.1 100 Continue\r\n\r\n", 100, b"HTTP/1.1 204 No\r\n\r\n", "204 "),
-    (b"HTTP/1.1 200 OK\r\nTransfer-Encoding: chunked\r\n\r\n1;", b"e", 4_092, b"\r\nx\r\n0\r\n\r\n", "200 x"),
-    (b"HTTP/1.1 200 OK\r\nTransfer-Encoding: chunked\r\n\r\n1;", b"e", 4_093, b"\r\nx\r\n0\r\n\r\n", "TooLarge"),
-    (b"HTTP/1.1 200 OK\r\nTransfer-Encoding: chunked\r\n\r\n0\r\nT: ", b"t", 65_500, b"\r\n\r\n", "TooLarge"),
+    (
+        b"",
+        b"HTTP/1.1 100 Continue\r\n\r\n",
+        100,
+        b"HTTP/1.1 204 No\r\n\r\n",
+        "204 ",
+    ),
+    (
+        b"HTTP/1.1 200 OK\r\nTransfer-Encoding: chunked\r\n\r\n1;",
+        b"e",
+        4_092,
+        b"\r\nx\r\n0\r\n\r\n",
+        "200 x",
+    ),
+    (
+        b"HTTP/1.1 200 OK\r\nTransfer-Encoding: chunked\r\n\r\n1;",
+        b"e",
+        4_093,
+        b"\r\nx\r\n0\r\n\r\n",
+        "TooLarge",
+    ),
+    (
+        b"HTTP/1.1 200 OK\r\nTransfer-Encoding: chunked\r\n\r\n0\r\nT: ",
+        b"t",
+        65_500,
+        b"\r\n\r\n",
+        "TooLarge",
+    ),
 ];
 
 #[test]
