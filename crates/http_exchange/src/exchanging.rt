@@ -1,6 +1,6 @@
 ghost use Rattle.std.specs.Prelude.{◌≡◌, ◌≤◌, false};
 ghost use Rattle.aws_world.specs.Told.{Tells, Rose};
-ghost use Rattle.http_reply.specs.Reading.{IsSmall};
+ghost use Rattle.http_reply.specs.Outcome.{IsSmall};
 ghost use Rattle.http_exchange.specs.Exchange.{AddsExchange, IsLost};
 
 use crate::receiving::receive_reply;

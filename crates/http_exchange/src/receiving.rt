@@ -1,6 +1,6 @@
 ghost use Rattle.std.specs.Prelude.{◌≡◌, ◌≤◌, true, []};
 ghost use Rattle.aws_world.specs.Told.{Tells, Rose};
-ghost use Rattle.http_reply.specs.Reading.{IsSmall};
+ghost use Rattle.http_reply.specs.Outcome.{IsSmall};
 ghost use Rattle.http_reply.specs.Waiting.{WaitsAfter};
 ghost use Rattle.http_exchange.specs.Exchange.{Receives, IsLost};
 
