@@ -10,9 +10,9 @@ use Rattle.json_doc.specs.declared.doc.Doc.{Doc}
 use Rattle.json_doc.specs.declared.pairs.Pair.{Pair}
 use Rattle.json_doc.specs.Keys.{put}
 use Rattle.json_doc.specs.Reading.{Read, ◌>>=◌}
-use Rattle.json_doc.specs.Grammar.{Ws, Structural, String, put_all, Reads}
+use Rattle.json_doc.specs.Grammar.{Ws, Structural, String, put_all, Reads, is_blank}
 use Rattle.json_doc.specs.Grammar as g
-use Rattle.json_doc.specs.Scan.{made, is_blank, skipped, behind, past, is_number_start, begins_number, scalar_at, key_at, ended, Value, Array, Object, Elements, Members, Scans}
+use Rattle.json_doc.specs.Scan.{made, skipped, behind, past, is_number_start, begins_number, scalar_at, key_at, ended, Value, Array, Object, Elements, Members, Scans}
 use Rattle.json_doc.specs.NumberToken.{Number, SpellsNumber, IsDigits, minus, is_exp_mark, number_at, ReadsNumber}
 use Rattle.json_doc.proofs.NumberScans.{Follows, digit_is}
 use Rattle.json_doc.proofs.NumbersAgain.{number_at-spelled}
@@ -22,11 +22,11 @@ use Rattle.json_doc.proofs.Once.{behind-is, other-behind, no_mark}
 use Rattle.json_doc.proofs.Sound.{Ws-skipped, past-is, IfOk-bind}
 
 -- where a value may end: at the end of the bytes, a blank, a comma or a closing bracket
-abbrev Ends : List ℕ → Type 0
-Ends [] = Unit {0}
-Ends (b ∷ bs) = IsTrue (is_blank b || b == 44 || b == 93 || b == 125)
+abbrev MayEnd : List ℕ → Type 0
+MayEnd [] = Unit {0}
+MayEnd (b ∷ bs) = IsTrue (is_blank b || b == 44 || b == 93 || b == 125)
 
-ends_blank : (ws rest : List ℕ) → AllByRecursion (λ b. IsTrue (is_blank b)) ws → Ends rest → Ends (ws ++ rest)
+ends_blank : (ws rest : List ℕ) → AllByRecursion (λ b. IsTrue (is_blank b)) ws → MayEnd rest → MayEnd (ws ++ rest)
 ends_blank [] rest h e = e
 ends_blank (b ∷ ws) rest h e = ap (λ v. v || b == 44 || b == 93 || b == 125) h.0
 
@@ -41,21 +41,21 @@ text-read bs t rest (chars, e, h) = (chars, e, text_at-spelled chars t rest h)
 
 -- a byte at which a value may end passes no test that none of them passes
 ends-test : (p : ℕ → Bool) (rest : List ℕ) → p 0 ≡ false → p 32 ≡ false → p 9 ≡ false → p 10 ≡ false → p 13 ≡ false → p 44 ≡ false → p 93 ≡ false → p 125 ≡ false
-    → Ends rest → p (slice_index rest 0) ≡ false
+    → MayEnd rest → p (slice_index rest 0) ≡ false
 ends-test p [] none space tab feed return comma bracket brace ends = none
 ends-test p (b ∷ bs) none space tab feed return comma bracket brace ends =
     let at = λ (c : ℕ) (h : p c ≡ false) (e : b == c ≡ true). subst (λ x. p x ≡ false) (sym (eqb-true b c e)) h in
     ⊎_elim (λ marks. ⊎_elim (λ marks. ⊎_elim (λ blanks. ⊎_elim (λ blanks. ⊎_elim (λ blanks. ⊎_elim (at 32 space) (at 9 tab) (or_cases _ _ blanks)) (at 10 feed) (or_cases _ _ blanks)) (at 13 return) (or_cases _ _ blanks))
     (at 44 comma) (or_cases _ _ marks)) (at 93 bracket) (or_cases _ _ marks)) (at 125 brace) (or_cases _ _ ends)
 
-follows-ends : (parts : Number) (rest : List ℕ) → Ends rest → Follows parts rest
+follows-ends : (parts : Number) (rest : List ℕ) → MayEnd rest → Follows parts rest
 follows-ends parts rest ends =
     let digit = ends-test is_ascii_digit rest refl refl refl refl refl refl refl refl ends in
     let mark = ends-test is_exp_mark rest refl refl refl refl refl refl refl refl ends in
     let point = ends-test (λ b. b == 0x2E) rest refl refl refl refl refl refl refl refl ends in
     record { int = λ _ _. (eqb-false (slice_index rest 0) 0x2E point, inr digit); frac = λ _ _. digit; mark = λ _. mark; exp = λ _. digit }
 
-number-read : (parts : Number) (spelled rest : List ℕ) → SpellsNumber parts spelled → Ends rest → number_at (spelled ++ rest) ≡ Ok (parts, rest)
+number-read : (parts : Number) (spelled rest : List ℕ) → SpellsNumber parts spelled → MayEnd rest → number_at (spelled ++ rest) ≡ Ok (parts, rest)
 number-read parts spelled rest spells ends = number_at-spelled parts spelled rest spells (follows-ends parts rest ends)
 
 digits-begin : (ds more : List ℕ) → IsDigits ds → begins_number (ds ++ more) ≡ true
@@ -130,8 +130,8 @@ marked c bs ws rest dark (cs, before, after) e =
     let front : skipped bs ≡ c ∷ cs = e ∙ Ws-skipped ws (c ∷ cs) before ∙ left_out (is_blank c) (skipped cs) (c ∷ cs) dark in
     (cs, subst (λ vs. behind c vs ≡ Some cs) (sym front) (behind-same c cs), Ws-skipped cs rest after)
 
-marked_ends : (c : ℕ) (ws rest : List ℕ) → (is_blank c || c == 44 || c == 93 || c == 125) ≡ true → Structural c ws rest → Ends ws
-marked_ends c ws rest h (cs, (blanks, all, e), after) = subst Ends (sym e) (ends_blank blanks (c ∷ cs) all h)
+marked_ends : (c : ℕ) (ws rest : List ℕ) → (is_blank c || c == 44 || c == 93 || c == 125) ≡ true → Structural c ws rest → MayEnd ws
+marked_ends c ws rest h (cs, (blanks, all, e), after) = subst MayEnd (sym e) (ends_blank blanks (c ∷ cs) all h)
 
 key-read : (bs t ws vs : List ℕ) → String bs t ws → Structural 58 ws vs → key_at (skipped bs) ≡ Ok (t, skipped vs)
 key-read bs t ws vs key colon =
@@ -146,7 +146,7 @@ abbrev ReadsValue : ℕ → List ℕ → Doc → List ℕ → Type 0
 ReadsValue n bs d rest = (ws : List ℕ) × Value n (skipped bs) (Ok (d, ws)) × (skipped ws ≡ skipped rest)
 
 mutual
-  value_complete : {n : ℕ} {bs : List ℕ} {d : Doc} {rest : List ℕ} → g.Value n bs d rest → Ends rest → ReadsValue n bs d rest
+  value_complete : {n : ℕ} {bs : List ℕ} {d : Doc} {rest : List ℕ} → g.Value n bs d rest → MayEnd rest → ReadsValue n bs d rest
   value_complete (g.Value.false_name {n = n} {bs = bs} {rest = rest} e) ends =
       subst (λ cs. ReadsValue n cs (doc.Flag false) rest) (sym e) (rest, Value.scalar refl refl refl refl, refl)
   value_complete (g.Value.null_name {n = n} {bs = bs} {rest = rest} e) ends =
@@ -207,7 +207,7 @@ mutual
       let es = subst (λ cs. Members n (put ps m.key m.value) cs (Ok (put_all ps (m ∷ ms), r.0))) (sym c.2) r.1 in
       (r.0, Members.more_members v.2 v.3 (other-behind 44 125 (skipped v.1) c.0 (λ h. absurd (omega arith)) c.1) c.1 es, r.2)
 
-  member_complete : {n : ℕ} {bs : List ℕ} {m : Pair Doc} {rest : List ℕ} → g.Member n bs m rest → Ends rest
+  member_complete : {n : ℕ} {bs : List ℕ} {m : Pair Doc} {rest : List ℕ} → g.Member n bs m rest → MayEnd rest
       → (vs : List ℕ) × (ws : List ℕ) × (key_at (skipped bs) ≡ Ok (m.key, vs)) × Value n vs (Ok (m.value, ws)) × (skipped ws ≡ skipped rest)
   member_complete (g.Member.member {n = n} {bs = bs} {t = t} {ws = ws} {vs = vs} {rest = rest} {d = d} key colon value) ends =
       let v = value_complete value ends in
@@ -215,6 +215,6 @@ mutual
 
 pub text_complete : (bs : List ℕ) (d : Doc) → Reads bs d → Scans bs (Ok d)
 text_complete bs d (vs, ws, before, value, after) =
-    let ends = subst Ends (sym after.2) (ends_blank after.0 [] after.1 tt) in
+    let ends = subst MayEnd (sym after.2) (ends_blank after.0 [] after.1 tt) in
     let v = value_complete value ends in
     (Ok (d, v.0), subst (λ cs. Value 0 cs (Ok (d, v.0))) (sym (Ws-skipped bs vs before)) v.1, sym (ap (ended d) (v.2 ∙ Ws-skipped ws [] after)))

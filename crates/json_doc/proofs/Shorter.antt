@@ -11,7 +11,8 @@ use Rattle.json_doc.specs.TextToken.{text_at}
 use Rattle.json_doc.proofs.Within.{Within, Left, left_of, either, wider, bind-within}
 use Rattle.json_doc.proofs.NumberLeft.{ReadsNumber-within}
 use Rattle.json_doc.proofs.TextLeft.{text_at-within}
-use Rattle.json_doc.specs.Scan.{made, is_blank, skipped, behind, past, past_word, named, scalar_at, key_at, ended, Value, Array, Object, Elements, Members, Scans}
+use Rattle.json_doc.specs.Grammar.{is_blank}
+use Rattle.json_doc.specs.Scan.{made, skipped, behind, past, past_word, named, scalar_at, key_at, ended, Value, Array, Object, Elements, Members, Scans}
 
 pub skipped-le : (bs : List ℕ) → length (skipped bs) ≤ length bs
 skipped-le [] = omega arith

@@ -11,10 +11,10 @@ use Rattle.json_doc.specs.declared.pairs.Pair.{Pair}
 use Rattle.json_doc.specs.declared.stop.Stop.{Stop}
 use Rattle.json_doc.specs.declared.stop.Stop.TheVariants.{Syntax}
 use Rattle.json_doc.specs.Keys.{put}
-use Rattle.json_doc.specs.Grammar.{Ws, Structural, String, put_all, Reads}
+use Rattle.json_doc.specs.Grammar.{Ws, Structural, String, put_all, Reads, is_blank}
 use Rattle.json_doc.specs.Grammar as g
 use Rattle.json_doc.specs.Reading.{Read, ◌>>=◌}
-use Rattle.json_doc.specs.Scan.{made, is_blank, skipped, behind, past, past_word, named, scalar_at, key_at, ended, Value, Array, Object, Elements, Members, Scans}
+use Rattle.json_doc.specs.Scan.{made, skipped, behind, past, past_word, named, scalar_at, key_at, ended, Value, Array, Object, Elements, Members, Scans}
 use Rattle.json_doc.specs.NumberToken.{ReadsNumber}
 use Rattle.json_doc.proofs.NumberScans.{number_at_ok}
 use Rattle.json_doc.specs.TextToken.{text_at}

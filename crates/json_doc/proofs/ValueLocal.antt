@@ -3,7 +3,7 @@ use Rattle.std.proofs.Common.{◌≡◌, ◌==◌, ℕ, suc, ◌+◌, ◌<◌, �
 use Rattle.std.proofs.Math.Seq.{take-suc}
 use Rattle.json_doc.specs.declared.read_fault.ReadFault.{ReadFault}
 use Rattle.json_doc.specs.declared.read_fault.ReadFault.TheVariants as fault
-use Rattle.json_doc.specs.Grammar.{Reads}
+use Rattle.json_doc.specs.Grammar.{Reads, is_blank}
 use Rattle.json_doc.specs.Faults.{HasFault, BeginsNoDocument, IsDeadEnd}
 use Rattle.json_doc.proofs.Once.{text_once}
 use Rattle.json_doc.proofs.Complete.{text_complete}
@@ -19,7 +19,7 @@ use Rattle.json_doc.specs.Reading.{Read, ◌>>=◌}
 use Rattle.json_doc.specs.NumberToken.{number_at, ReadsNumber}
 use Rattle.json_doc.proofs.NumberLocal.{number_at-local}
 use Rattle.json_doc.specs.TextToken.{text_at}
-use Rattle.json_doc.specs.Scan.{made, is_blank, skipped, behind, past, past_word, named, begins_number, scalar_at, key_at, ended, whole, Value, Array, Object, Elements, Members, Scans}
+use Rattle.json_doc.specs.Scan.{made, skipped, behind, past, past_word, named, begins_number, scalar_at, key_at, ended, whole, Value, Array, Object, Elements, Members, Scans}
 use Rattle.json_doc.proofs.Within.{Within, Left, bind-within}
 use Rattle.json_doc.proofs.Shorter.{skipped-le, behind-lt, past-le, past_word-le, named-within, made-within, past_skipped-le, bind-left, value_in-within, array_in-within, elements_in-within, object_in-within, members_in-within}
 use Rattle.json_doc.proofs.TextLeft.{text_at-within}

@@ -1,17 +1,20 @@
 -- The grammar of JSON texts (RFC 8259), under the names of its rules. A rule relates the bytes at
 -- its start, what they stand for, and the bytes behind it. At most 100 arrays and objects stand in
 -- one another: `n` counts those that are open.
-use Rattle.std.specs.Prelude.{◌≡◌, ℕ, ◌+◌, ◌<◌, IsTrue, false, true, codes, List, [], ◌∷◌, ◌++◌}
+use Rattle.std.specs.Prelude.{◌≡◌, ℕ, ◌+◌, ◌<◌, ◌==◌, ◌||◌, Bool, IsTrue, false, true, codes, List, [], ◌∷◌, ◌++◌}
 use Rattle.std.specs.List.{AllByRecursion}
 use Rattle.json_doc.specs.declared.decimal.Decimal.{Decimal}
 use Rattle.json_doc.specs.declared.doc.Doc as doc
 use Rattle.json_doc.specs.declared.doc.Doc.{Doc}
 use Rattle.json_doc.specs.declared.pairs.Pair.{Pair}
 use Rattle.json_doc.specs.Keys.{put}
-use Rattle.json_doc.specs.Scan.{is_blank}
 use Rattle.json_doc.specs.Exact.{HasValue}
 use Rattle.json_doc.specs.NumberToken.{Number, SpellsNumber, value_of}
 use Rattle.json_doc.specs.TextToken.{BeginsWithText}
+
+-- space, tab, line feed or carriage return
+abbrev pub is_blank : ℕ → Bool
+is_blank b = b == 0x20 || b == 0x09 || b == 0x0A || b == 0x0D
 
 -- ws = *( %x20 / %x09 / %x0A / %x0D )
 abbrev pub Ws : List ℕ → List ℕ → Type 0
@@ -23,7 +26,7 @@ Structural c bs rest = (ws : List ℕ) × Ws bs (c ∷ ws) × Ws ws rest
 
 -- string = quotation-mark *char quotation-mark
 abbrev pub String : List ℕ → List ℕ → List ℕ → Type 0
-String bs t rest = (chars : List ℕ) × (bs ≡ 34 ∷ chars) × BeginsWithText chars t rest
+String bs t rest = (chars : List ℕ) × (bs ≡ 0x22 ∷ chars) × BeginsWithText chars t rest
 
 -- the pairs put one after another: a key that comes again keeps its place and takes the last value
 abbrev pub put_all : {T : Type 0} → List (Pair T) → List (Pair T) → List (Pair T)
@@ -40,25 +43,25 @@ mutual
     number : {n : ℕ} {bs spelled rest : List ℕ} {parts : Number} {m : Decimal} → SpellsNumber parts spelled → HasValue m (value_of parts) → bs ≡ spelled ++ rest → Value n bs (doc.Number m) rest
     string : {n : ℕ} {bs t rest : List ℕ} → String bs t rest → Value n bs (doc.Str t) rest
     -- array = begin-array [ value *( value-separator value ) ] end-array
-    empty_array : {n : ℕ} {bs ws rest : List ℕ} → n < 100 → Structural 91 bs ws → Structural 93 ws rest → Value n bs (doc.Items []) rest
-    array : {n : ℕ} {bs vs ws rest : List ℕ} {ds : List Doc} → n < 100 → Structural 91 bs vs → Values (n + 1) vs ds ws → Structural 93 ws rest → Value n bs (doc.Items ds) rest
+    empty_array : {n : ℕ} {bs ws rest : List ℕ} → n < 100 → Structural 0x5B bs ws → Structural 0x5D ws rest → Value n bs (doc.Items []) rest
+    array : {n : ℕ} {bs vs ws rest : List ℕ} {ds : List Doc} → n < 100 → Structural 0x5B bs vs → Values (n + 1) vs ds ws → Structural 0x5D ws rest → Value n bs (doc.Items ds) rest
     -- object = begin-object [ member *( value-separator member ) ] end-object
-    empty_object : {n : ℕ} {bs ws rest : List ℕ} → n < 100 → Structural 123 bs ws → Structural 125 ws rest → Value n bs (doc.Fields []) rest
-    object : {n : ℕ} {bs vs ws rest : List ℕ} {ms : List (Pair Doc)} → n < 100 → Structural 123 bs vs → Members (n + 1) vs ms ws → Structural 125 ws rest → Value n bs (doc.Fields (put_all [] ms)) rest
+    empty_object : {n : ℕ} {bs ws rest : List ℕ} → n < 100 → Structural 0x7B bs ws → Structural 0x7D ws rest → Value n bs (doc.Fields []) rest
+    object : {n : ℕ} {bs vs ws rest : List ℕ} {ms : List (Pair Doc)} → n < 100 → Structural 0x7B bs vs → Members (n + 1) vs ms ws → Structural 0x7D ws rest → Value n bs (doc.Fields (put_all [] ms)) rest
 
   -- value *( value-separator value )
   pub data Values : ℕ → List ℕ → List Doc → List ℕ → Type 0 where
     one_value : {n : ℕ} {bs rest : List ℕ} {d : Doc} → Value n bs d rest → Values n bs (d ∷ []) rest
-    more_values : {n : ℕ} {bs ws vs rest : List ℕ} {d : Doc} {ds : List Doc} → Value n bs d ws → Structural 44 ws vs → Values n vs ds rest → Values n bs (d ∷ ds) rest
+    more_values : {n : ℕ} {bs ws vs rest : List ℕ} {d : Doc} {ds : List Doc} → Value n bs d ws → Structural 0x2C ws vs → Values n vs ds rest → Values n bs (d ∷ ds) rest
 
   -- member *( value-separator member )
   pub data Members : ℕ → List ℕ → List (Pair Doc) → List ℕ → Type 0 where
     one_member : {n : ℕ} {bs rest : List ℕ} {m : Pair Doc} → Member n bs m rest → Members n bs (m ∷ []) rest
-    more_members : {n : ℕ} {bs ws vs rest : List ℕ} {m : Pair Doc} {ms : List (Pair Doc)} → Member n bs m ws → Structural 44 ws vs → Members n vs ms rest → Members n bs (m ∷ ms) rest
+    more_members : {n : ℕ} {bs ws vs rest : List ℕ} {m : Pair Doc} {ms : List (Pair Doc)} → Member n bs m ws → Structural 0x2C ws vs → Members n vs ms rest → Members n bs (m ∷ ms) rest
 
   -- member = string name-separator value
   pub data Member : ℕ → List ℕ → Pair Doc → List ℕ → Type 0 where
-    member : {n : ℕ} {bs t ws vs rest : List ℕ} {d : Doc} → String bs t ws → Structural 58 ws vs → Value n vs d rest → Member n bs (record { key = t; value = d }) rest
+    member : {n : ℕ} {bs t ws vs rest : List ℕ} {d : Doc} → String bs t ws → Structural 0x3A ws vs → Value n vs d rest → Member n bs (record { key = t; value = d }) rest
 
 -- JSON-text = ws value ws
 abbrev pub Reads : List ℕ → Doc → Type 0

@@ -8,6 +8,7 @@ use Rattle.json_doc.specs.declared.doc.Doc.{Doc}
 use Rattle.json_doc.specs.declared.pairs.Pair.{Pair}
 use Rattle.json_doc.specs.declared.stop.Stop.{Stop}
 use Rattle.json_doc.specs.declared.stop.Stop.TheVariants.{Syntax, TooDeep}
+use Rattle.json_doc.specs.Grammar.{is_blank}
 use Rattle.json_doc.specs.Keys.{put}
 use Rattle.json_doc.specs.Reading.{Read, ◌>>=◌}
 use Rattle.json_doc.specs.NumberToken.{ReadsNumber}
@@ -17,10 +18,6 @@ use Rattle.json_doc.specs.TextToken.{text_at}
 abbrev pub made : {A B : Type 0} → (A → B) → Read A → Read B
 made f (Ok x) = Ok (f x.0, x.1)
 made f (Err stop) = Err stop
-
--- space, tab, line feed and carriage return
-abbrev pub is_blank : ℕ → Bool
-is_blank b = b == 32 || b == 9 || b == 10 || b == 13
 
 -- the bytes without the blanks in front
 abbrev pub skipped : List ℕ → List ℕ
@@ -44,7 +41,7 @@ past_word (c ∷ cs) bs = past c bs >>= past_word cs
 
 -- numbers begin with a digit or a minus
 abbrev pub is_number_start : ℕ → Bool
-is_number_start b = b == 45 || is_ascii_digit b
+is_number_start b = b == 0x2D || is_ascii_digit b
 
 abbrev pub begins_number : List ℕ → Bool
 begins_number [] = false
@@ -58,49 +55,51 @@ named d word bs = past_word word bs >>= (λ rest. Ok (d, rest))
 abbrev pub scalar_at : List ℕ → Read Doc
 scalar_at [] = Err (Syntax 0)
 scalar_at (b ∷ bs) =
-    if b == 34 then made doc.Str (text_at bs) else
-    (if b == 102 then named (doc.Flag false) (codes "alse") bs else
-    (if b == 110 then named doc.Null (codes "ull") bs else
-    (if b == 116 then named (doc.Flag true) (codes "rue") bs else
+    if b == 0x22 then made doc.Str (text_at bs) else
+    (if b == 0x66 then named (doc.Flag false) (codes "alse") bs else
+    (if b == 0x6E then named doc.Null (codes "ull") bs else
+    (if b == 0x74 then named (doc.Flag true) (codes "rue") bs else
     Err (Syntax (length (b ∷ bs))))))
 
 -- a key, its colon, and blanks
 abbrev pub key_at : List ℕ → Read (List ℕ)
-key_at bs = past 34 bs >>= (λ ks. text_at ks >>= (λ key. past 58 (skipped key.1) >>= (λ vs. Ok (key.0, skipped vs))))
+key_at bs = past 0x22 bs >>= (λ ks. text_at ks >>= (λ key. past 0x3A (skipped key.1) >>= (λ vs. Ok (key.0, skipped vs))))
 
 mutual
+  -- a value: a text, a word or a number; what stands in an array or an object, where fewer than 100
+  -- are open; else its opening bracket is the fault
   pub data Value : ℕ → List ℕ → Read Doc → Type 0 where
-    scalar : {n : ℕ} {bs : List ℕ} {o : Read Doc} → behind 91 bs ≡ None → behind 123 bs ≡ None → begins_number bs ≡ false → scalar_at bs ≡ o → Value n bs o
+    scalar : {n : ℕ} {bs : List ℕ} {o : Read Doc} → behind 0x5B bs ≡ None → behind 0x7B bs ≡ None → begins_number bs ≡ false → scalar_at bs ≡ o → Value n bs o
     number : {n : ℕ} {bs : List ℕ} {o : Read Decimal} → begins_number bs ≡ true → ReadsNumber bs o → Value n bs (made doc.Number o)
-    array : {n : ℕ} {bs ws : List ℕ} {o : Read (List Doc)} → behind 91 bs ≡ Some ws → n < 100 → Array (n + 1) (skipped ws) o → Value n bs (made doc.Items o)
-    object : {n : ℕ} {bs ws : List ℕ} {o : Read (List (Pair Doc))} → behind 123 bs ≡ Some ws → n < 100 → Object (n + 1) (skipped ws) o → Value n bs (made doc.Fields o)
-    deep_array : {n : ℕ} {bs ws : List ℕ} → behind 91 bs ≡ Some ws → 100 ≤ n → Value n bs (Err (TooDeep (length bs)))
-    deep_object : {n : ℕ} {bs ws : List ℕ} → behind 123 bs ≡ Some ws → 100 ≤ n → Value n bs (Err (TooDeep (length bs)))
+    array : {n : ℕ} {bs ws : List ℕ} {o : Read (List Doc)} → behind 0x5B bs ≡ Some ws → n < 100 → Array (n + 1) (skipped ws) o → Value n bs (made doc.Items o)
+    object : {n : ℕ} {bs ws : List ℕ} {o : Read (List (Pair Doc))} → behind 0x7B bs ≡ Some ws → n < 100 → Object (n + 1) (skipped ws) o → Value n bs (made doc.Fields o)
+    deep_array : {n : ℕ} {bs ws : List ℕ} → behind 0x5B bs ≡ Some ws → 100 ≤ n → Value n bs (Err (TooDeep (length bs)))
+    deep_object : {n : ℕ} {bs ws : List ℕ} → behind 0x7B bs ≡ Some ws → 100 ≤ n → Value n bs (Err (TooDeep (length bs)))
 
-  -- behind the opening bracket
+  -- behind the opening bracket and blanks
   pub data Array : ℕ → List ℕ → Read (List Doc) → Type 0 where
-    empty_array : {n : ℕ} {bs rest : List ℕ} → behind 93 bs ≡ Some rest → Array n bs (Ok ([], rest))
-    full_array : {n : ℕ} {bs : List ℕ} {o : Read (List Doc)} → behind 93 bs ≡ None → Elements n [] bs o → Array n bs o
+    empty_array : {n : ℕ} {bs rest : List ℕ} → behind 0x5D bs ≡ Some rest → Array n bs (Ok ([], rest))
+    full_array : {n : ℕ} {bs : List ℕ} {o : Read (List Doc)} → behind 0x5D bs ≡ None → Elements n [] bs o → Array n bs o
 
-  -- elements that are still to come behind these
+  -- elements that are still to come behind these: each is followed by the closing bracket or a comma
   pub data Elements : ℕ → List Doc → List ℕ → Read (List Doc) → Type 0 where
     bad_element : {n : ℕ} {ds : List Doc} {bs : List ℕ} {stop : Stop} → Value n bs (Err stop) → Elements n ds bs (Err stop)
-    last_element : {n : ℕ} {ds : List Doc} {bs ws rest : List ℕ} {d : Doc} → Value n bs (Ok (d, ws)) → behind 93 (skipped ws) ≡ Some rest → Elements n ds bs (Ok (ds ++ d ∷ [], rest))
-    more_elements : {n : ℕ} {ds : List Doc} {bs ws rest : List ℕ} {d : Doc} {o : Read (List Doc)} → Value n bs (Ok (d, ws)) → behind 93 (skipped ws) ≡ None → behind 44 (skipped ws) ≡ Some rest → Elements n (ds ++ d ∷ []) (skipped rest) o → Elements n ds bs o
-    open_array : {n : ℕ} {ds : List Doc} {bs ws : List ℕ} {d : Doc} → Value n bs (Ok (d, ws)) → behind 93 (skipped ws) ≡ None → behind 44 (skipped ws) ≡ None → Elements n ds bs (Err (Syntax (length (skipped ws))))
+    last_element : {n : ℕ} {ds : List Doc} {bs ws rest : List ℕ} {d : Doc} → Value n bs (Ok (d, ws)) → behind 0x5D (skipped ws) ≡ Some rest → Elements n ds bs (Ok (ds ++ d ∷ [], rest))
+    more_elements : {n : ℕ} {ds : List Doc} {bs ws rest : List ℕ} {d : Doc} {o : Read (List Doc)} → Value n bs (Ok (d, ws)) → behind 0x5D (skipped ws) ≡ None → behind 0x2C (skipped ws) ≡ Some rest → Elements n (ds ++ d ∷ []) (skipped rest) o → Elements n ds bs o
+    open_array : {n : ℕ} {ds : List Doc} {bs ws : List ℕ} {d : Doc} → Value n bs (Ok (d, ws)) → behind 0x5D (skipped ws) ≡ None → behind 0x2C (skipped ws) ≡ None → Elements n ds bs (Err (Syntax (length (skipped ws))))
 
-  -- behind the opening brace
+  -- behind the opening brace and blanks
   pub data Object : ℕ → List ℕ → Read (List (Pair Doc)) → Type 0 where
-    empty_object : {n : ℕ} {bs rest : List ℕ} → behind 125 bs ≡ Some rest → Object n bs (Ok ([], rest))
-    full_object : {n : ℕ} {bs : List ℕ} {o : Read (List (Pair Doc))} → behind 125 bs ≡ None → Members n [] bs o → Object n bs o
+    empty_object : {n : ℕ} {bs rest : List ℕ} → behind 0x7D bs ≡ Some rest → Object n bs (Ok ([], rest))
+    full_object : {n : ℕ} {bs : List ℕ} {o : Read (List (Pair Doc))} → behind 0x7D bs ≡ None → Members n [] bs o → Object n bs o
 
-  -- members that are still to come behind these
+  -- members that are still to come behind these: each is followed by the closing brace or a comma
   pub data Members : ℕ → List (Pair Doc) → List ℕ → Read (List (Pair Doc)) → Type 0 where
     bad_key : {n : ℕ} {ps : List (Pair Doc)} {bs : List ℕ} {stop : Stop} → key_at bs ≡ Err stop → Members n ps bs (Err stop)
     bad_member : {n : ℕ} {ps : List (Pair Doc)} {bs k vs : List ℕ} {stop : Stop} → key_at bs ≡ Ok (k, vs) → Value n vs (Err stop) → Members n ps bs (Err stop)
-    last_member : {n : ℕ} {ps : List (Pair Doc)} {bs k vs ws rest : List ℕ} {d : Doc} → key_at bs ≡ Ok (k, vs) → Value n vs (Ok (d, ws)) → behind 125 (skipped ws) ≡ Some rest → Members n ps bs (Ok (put ps k d, rest))
-    more_members : {n : ℕ} {ps : List (Pair Doc)} {bs k vs ws rest : List ℕ} {d : Doc} {o : Read (List (Pair Doc))} → key_at bs ≡ Ok (k, vs) → Value n vs (Ok (d, ws)) → behind 125 (skipped ws) ≡ None → behind 44 (skipped ws) ≡ Some rest → Members n (put ps k d) (skipped rest) o → Members n ps bs o
-    open_object : {n : ℕ} {ps : List (Pair Doc)} {bs k vs ws : List ℕ} {d : Doc} → key_at bs ≡ Ok (k, vs) → Value n vs (Ok (d, ws)) → behind 125 (skipped ws) ≡ None → behind 44 (skipped ws) ≡ None → Members n ps bs (Err (Syntax (length (skipped ws))))
+    last_member : {n : ℕ} {ps : List (Pair Doc)} {bs k vs ws rest : List ℕ} {d : Doc} → key_at bs ≡ Ok (k, vs) → Value n vs (Ok (d, ws)) → behind 0x7D (skipped ws) ≡ Some rest → Members n ps bs (Ok (put ps k d, rest))
+    more_members : {n : ℕ} {ps : List (Pair Doc)} {bs k vs ws rest : List ℕ} {d : Doc} {o : Read (List (Pair Doc))} → key_at bs ≡ Ok (k, vs) → Value n vs (Ok (d, ws)) → behind 0x7D (skipped ws) ≡ None → behind 0x2C (skipped ws) ≡ Some rest → Members n (put ps k d) (skipped rest) o → Members n ps bs o
+    open_object : {n : ℕ} {ps : List (Pair Doc)} {bs k vs ws : List ℕ} {d : Doc} → key_at bs ≡ Ok (k, vs) → Value n vs (Ok (d, ws)) → behind 0x7D (skipped ws) ≡ None → behind 0x2C (skipped ws) ≡ None → Members n ps bs (Err (Syntax (length (skipped ws))))
 
 -- a document, behind which nothing is due but blanks
 abbrev pub ended : Doc → List ℕ → Result Doc Stop

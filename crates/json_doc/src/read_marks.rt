@@ -1,7 +1,8 @@
 ghost use Rattle.std.specs.Prelude.{◌≡◌, ◌≤◌, ◌<◌, length, codes, IsTrue, IfOk, IfErr, Ok, Err};
 ghost use Rattle.std.specs.Option.{option_copied};
 ghost use Rattle.json_doc.specs.Reading.{Gives, Stops};
-ghost use Rattle.json_doc.specs.Scan.{begins_number, is_blank, skipped, behind, past, past_word, key_at};
+ghost use Rattle.json_doc.specs.Grammar.{is_blank};
+ghost use Rattle.json_doc.specs.Scan.{begins_number, skipped, behind, past, past_word, key_at};
 
 use crate::Text;
 use crate::stop::Stop;

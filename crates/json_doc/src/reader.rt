@@ -13,8 +13,9 @@ use crate::stop::Stop;
 use crate::{Doc, ReadFault};
 use std::alloc::Global;
 
-/// Reads a JSON text (RFC 8259) in UTF-8 without a byte order mark. A key that comes again takes
-/// its last value in its first place.
+/// Reads a JSON text (RFC 8259) in UTF-8 without a byte order mark, at most 100 arrays and objects
+/// in one another and each number exactly. A key that comes again takes its last value in its first
+/// place.
 pub fn read(alloc: Global, bytes: &[u8]) -> Result<Doc, ReadFault>
     // What is read is the document of the bytes; where they are one, it is read.
     ensures found { IfOk result (λ d. Reads bytes.now d) }
