@@ -1,3 +1,7 @@
+ghost use Rattle.std.specs.Prelude.{◌≡◌, ◌++◌, IfOk, OnOk};
+ghost use Rattle.std.specs.Str.{chars};
+ghost use Rattle.aws_main.specs.Words.{is_small_word, raised, operation_of, port_of, address_of, call_of, asked_of, Gives};
+
 use crate::causes::Unbuilt;
 use aws_world::Target;
 use json_doc::{OutOfMemory, Text};
@@ -15,14 +19,23 @@ pub struct Asked {
 }
 
 /// Reads a line: SERVICE OPERATION `--no-sign-request` `--endpoint-url` URL.
-pub fn read_words(alloc: Global, words: &[Text]) -> Result<Asked, Unbuilt> {
+pub fn read_words(alloc: Global, words: &[Text]) -> Result<Asked, Unbuilt>
+    ensures { Gives (asked_of words.now) result }
+{
     let [service, command, unsigned, endpoint, url] = words else {
         return Err(Unbuilt::NotBuilt);
     };
     if !unsigned.is("--no-sign-request") || !endpoint.is("--endpoint-url") {
         return Err(Unbuilt::NotBuilt);
     }
-    if !is_small_word(service.as_str()) {
+    read_call(alloc, service, command, url)
+}
+
+/// What SERVICE OPERATION and URL ask for.
+fn read_call(alloc: Global, service: &Text, command: &Text, url: &Text) -> Result<Asked, Unbuilt>
+    ensures { Gives (call_of service.now command.now url.now) result }
+{
+    if !is_small_word(service.as_str(), 1) {
         return Err(Unbuilt::NotBuilt);
     }
     let Some(operation) = operation_name(alloc, command.as_str())? else {
@@ -37,17 +50,21 @@ pub fn read_words(alloc: Global, words: &[Text]) -> Result<Asked, Unbuilt> {
     })
 }
 
-/// One or more small letters.
-fn is_small_word(word: &str) -> bool {
-    !word.is_empty() && word.bytes().all(|b| b.is_ascii_lowercase())
+/// At least so many letters, all of them small.
+fn is_small_word(word: &str, least: usize) -> bool
+    ensures { result ≡ is_small_word least word.now }
+{
+    word.len() >= least && word.bytes().all(|b| b.is_ascii_lowercase())
 }
 
 /// The name of an operation whose command name is words of two or more small letters joined by
 /// `-`: the words with their first letters raised.
-fn operation_name(alloc: Global, command: &str) -> Result<Option<Text>, OutOfMemory> {
+fn operation_name(alloc: Global, command: &str) -> Result<Option<Text>, OutOfMemory>
+    ensures { IfOk result (λ name. name ≡ operation_of command.now) }
+{
     let mut name = Text::new(alloc);
     for part in command.split('-') {
-        if part.len() < 2 || !is_small_word(part) {
+        if !is_small_word(part, 2) {
             return Ok(None);
         }
         push_raised(&mut name, part)?;
@@ -55,18 +72,22 @@ fn operation_name(alloc: Global, command: &str) -> Result<Option<Text>, OutOfMem
     Ok(Some(name))
 }
 
-fn push_raised(name: &mut Text, part: &str) -> Result<(), OutOfMemory> {
-    let mut is_first = true;
-    for c in part.chars() {
-        name.push(if is_first { c.to_ascii_uppercase() } else { c })?;
-        is_first = false;
+/// Puts a text at the end with its first letter raised.
+fn push_raised(name: &mut Text, part: &str) -> Result<(), OutOfMemory>
+    ensures { OnOk result (name.new ≡ name.old ++ raised (chars part.now)) }
+{
+    let mut letters = part.chars();
+    if let Some(first) = letters.next() {
+        name.push(first.to_ascii_uppercase())?;
     }
-    Ok(())
+    name.push_str(letters.as_str())
 }
 
 /// Host and target of `http://127.0.0.1:P` or `http://localhost:P`, where P isn't the port that
 /// HTTP has without one.
-fn address(alloc: Global, url: &str) -> Result<(Text, Target), Unbuilt> {
+fn address(alloc: Global, url: &str) -> Result<(Text, Target), Unbuilt>
+    ensures { Gives (address_of url.now) result }
+{
     let Some(authority) = url.strip_prefix("http://") else {
         return Err(Unbuilt::NotBuilt);
     };
@@ -87,9 +108,14 @@ fn address(alloc: Global, url: &str) -> Result<(Text, Target), Unbuilt> {
 }
 
 /// A port from 1 to 65535 without a leading zero, and not 80.
-fn port_of(digits: &str) -> Option<u16> {
+fn port_of(digits: &str) -> Option<u16>
+    ensures { result ≡ port_of digits.now }
+{
     if digits.starts_with('0') || !digits.bytes().all(|b| b.is_ascii_digit()) {
         return None;
     }
-    digits.parse::<u16>().ok().filter(|port| *port != 80)
+    match digits.parse::<u16>() {
+        Ok(port) if port != 80 => Some(port),
+        _ => None,
+    }
 }

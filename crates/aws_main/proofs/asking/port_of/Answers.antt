@@ -1,0 +1,55 @@
+use Rattle.std.proofs.Common.{◌≡◌, ℕ, ◌<◌, ◌^◌, ◌∙◌, sym, lit<, Bool, true, false, List, length, get_or, rules}
+use Rattle.std.specs.Prelude.{◌≢◌}
+use Rattle.std.specs.Char.{is_ascii_digit}
+use Rattle.std.specs.List.{list_all}
+use Rattle.std.specs.Bool.{Decides}
+use Rattle.std.specs.Str.Parse.{digits_value}
+use Rattle.std.proofs.lemmas.Bool.{false≢true}
+use Rattle.std.proofs.lemmas.Iterator.Adapters.{YieldsList-from_bytes}
+use Rattle.std.proofs.lemmas.Iterator.Search.{all_from_yields_List}
+use Rattle.std.proofs.lemmas.Str.Parse.{parse_digits}
+use Rattle.std.proofs.lemmas.Str.Pattern.{starts_char}
+use borrow.Author.Tests.{tests}
+use Rattle.aws_main.proofs.Ports.{numerals, port_of-none, port_of-some, is_port-zero, is_port-other, is_port-from, is_port-unread}
+use Rattle.aws_main.proofs.asking.port_of.Goals as goal
+use Rattle.aws_main.proofs.asking.port_of.Goals.{then-starts_with-via-then-starts_with, then-starts_with-via-else-starts_with+then-not-all}
+
+differs : (b : Bool) (m n : ℕ) → Decides b (m ≡ n) → b ≡ false → m ≢ n
+differs b m n decides is_false same = false≢true (sym is_false ∙ decides.1 same)
+
+along : (a b c : ℕ) → a ≡ b → a ≢ c → b ≢ c
+along a b c same other e = other (same ∙ e)
+
+pub returns-then-starts_with : goal.returns-then-starts_with
+returns-then-starts_with c =
+  elim c.then-starts_with.branch [
+    then-starts_with-via-then-starts_with w ↦
+      port_of-none c.args.digits.now (is_port-zero c.args.digits.now
+        ((starts_char 48 c.args.digits.now c.starts_with.result c.starts_with.ensures.cases (lit< tt) (lit< tt)).0 w.if-starts_with.true))
+  | then-starts_with-via-else-starts_with+then-not-all w ↦
+      port_of-none c.args.digits.now (is_port-other c.args.digits.now
+        (sym (all_from_yields_List is_ascii_digit _ _ w.all.result w.all.ensures.ran
+          (YieldsList-from_bytes c.args.digits.now w.bytes.ensures.rest) (λ x b q k. search (rules, tests))) ∙ w.if-not-all.true))
+  ]
+
+pub returns-in-Ok : goal.returns-in-Ok
+returns-in-Ok c =
+  let all : list_all is_ascii_digit c.args.digits.now ≡ true =
+    sym (all_from_yields_List is_ascii_digit _ _ c.all.result c.all.ensures.ran
+      (YieldsList-from_bytes c.args.digits.now c.bytes.ensures.rest) (λ x b q k. search (rules, tests))) ∙ c.if-not-all.false in
+  let read : ((0 < length c.args.digits.now) × (digits_value 10 c.args.digits.now < 2 ^ 16)) × (c.in-Ok.port ≡ digits_value 10 c.args.digits.now) =
+    rw c.in-Ok.is at (parse_digits numerals 16 c.args.digits.now c.parse.result c.parse.ensures.value.0 all) in
+  port_of-some c.args.digits.now c.in-Ok.port
+    (is_port-from c.args.digits.now
+      (differs c.starts_with.result _ 48 (starts_char 48 c.args.digits.now c.starts_with.result c.starts_with.ensures.cases (lit< tt) (lit< tt)) c.if-starts_with.false)
+      all read.0 (along _ _ 80 read.1 c.if-port-ne80.true))
+    read.1
+
+pub returns-in_default-2 : goal.returns-in_default-2
+returns-in_default-2 c =
+  let all : list_all is_ascii_digit c.args.digits.now ≡ true =
+    sym (all_from_yields_List is_ascii_digit _ _ c.all.result c.all.ensures.ran
+      (YieldsList-from_bytes c.args.digits.now c.bytes.ensures.rest) (λ x b q k. search (rules, tests))) ∙ c.if-not-all.false in
+  let unread : (0 < length c.args.digits.now) × (digits_value 10 c.args.digits.now < 2 ^ 16) → ⊥ =
+    rw c.in_default.is at (parse_digits numerals 16 c.args.digits.now c.parse.result c.parse.ensures.value.0 all) in
+  port_of-none c.args.digits.now (is_port-unread c.args.digits.now unread)
