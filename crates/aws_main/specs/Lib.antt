@@ -1,1 +1,4 @@
 pub mod Causes
+pub mod Documents
+pub mod Finding
+pub mod Model
