@@ -2,3 +2,4 @@ pub mod Causes
 pub mod Documents
 pub mod Finding
 pub mod Model
+pub mod Names

@@ -1,5 +1,5 @@
 -- What a service's model says of an operation, rule by rule.
-use Rattle.std.specs.Prelude.{◌≡◌, ℕ, Bool, true, false, ◌&&◌, not, if◌then◌else◌, nat_le, bytes_eq, codes, List, [], ◌∷◌, map, Option, None, Some, is_none}
+use Rattle.std.specs.Prelude.{ℕ, Bool, true, false, ◌&&◌, if◌then◌else◌, bytes_eq, codes, List, [], ◌∷◌, Option, None, Some, is_none}
 use Rattle.std.specs.List.{list_all}
 use Rattle.json_doc.specs.declared.doc.Doc.{Doc}
 use Rattle.json_doc.specs.declared.pairs.Pair.{Pair}
@@ -7,32 +7,12 @@ use Rattle.json_doc.specs.Keys.{keys, value_at}
 use Rattle.aws_main.specs.declared.models.Member.{Member}
 use Rattle.aws_main.specs.declared.models.Operation.{Operation}
 use Rattle.aws_main.specs.Finding.{◌>>=◌, when, each}
+use Rattle.aws_main.specs.Names.{is_plain_name}
 use Rattle.aws_main.specs.Documents.{fields_of, fields_at, text_at, has_only}
 
 -- the members of an object
 abbrev pub Fields : Type 0
 Fields = List (Pair Doc)
-
-abbrev pub is_capital : ℕ → Bool
-is_capital c = nat_le 65 c && nat_le c 90
-
-abbrev pub is_small : ℕ → Bool
-is_small c = nat_le 97 c && nat_le c 122
-
--- what may stand behind a capital: a small letter, small letters, and perhaps the next capital
-abbrev mutual
-  pub fits_behind_capital : List ℕ → Bool
-  fits_behind_capital [] = false
-  fits_behind_capital (c ∷ cs) = is_small c && fits_behind_small cs
-
-  pub fits_behind_small : List ℕ → Bool
-  fits_behind_small [] = true
-  fits_behind_small (c ∷ cs) = if is_small c then fits_behind_small cs else is_capital c && fits_behind_capital cs
-
--- one or more capitals, each followed by one or more small letters
-abbrev pub is_plain_name : List ℕ → Bool
-is_plain_name [] = false
-is_plain_name (c ∷ cs) = is_capital c && fits_behind_capital cs
 
 -- prefix and version of the protocol `json`
 unfoldable pub protocol_of : Fields → Option (List ℕ × List ℕ)

@@ -1,13 +1,14 @@
 ghost use Rattle.std.specs.Prelude.{◌≡◌};
 ghost use Rattle.std.specs.List.{list_all};
 ghost use Rattle.std.specs.Option.{option_copied};
-ghost use Rattle.std.specs.Str.{chars};
 ghost use Rattle.json_doc.specs.Keys.{keys};
 ghost use Rattle.aws_main.specs.Finding.{each, Finds};
-ghost use Rattle.aws_main.specs.Model.{is_plain_name, protocol_of, is_plain_row, row_of, shape_of, structure_of, names_string, is_list_of, member_of, has_plain_input, output_of, operation_of};
+ghost use Rattle.aws_main.specs.Names.{is_plain_name};
+ghost use Rattle.aws_main.specs.Model.{protocol_of, is_plain_row, row_of, shape_of, structure_of, names_string, is_list_of, member_of, has_plain_input, output_of, operation_of};
 
 use crate::causes::Unbuilt;
 use crate::documents::{has_only, object, text};
+use crate::names::is_plain_name;
 use json_doc::{Doc, List, Pair, Pairs, Text};
 use std::alloc::Global;
 
@@ -90,25 +91,6 @@ fn has_plain_names(operations: &Pairs<Doc>) -> bool
         }
     }
     true
-}
-
-/// One or more capitals, each followed by one or more small letters.
-fn is_plain_name(name: &str) -> bool
-    ensures { result ≡ is_plain_name (chars name.now) }
-{
-    let mut before = '-';
-    for c in name.chars() {
-        let fits = if c.is_ascii_uppercase() {
-            !before.is_ascii_uppercase()
-        } else {
-            c.is_ascii_lowercase() && before != '-'
-        };
-        if !fits {
-            return false;
-        }
-        before = c;
-    }
-    before.is_ascii_lowercase()
 }
 
 /// Whether an operation is sent by POST to `/`, and says nothing more than is built.
