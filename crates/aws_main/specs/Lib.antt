@@ -3,3 +3,5 @@ pub mod Documents
 pub mod Finding
 pub mod Model
 pub mod Names
+pub mod Output
+pub mod Request
