@@ -1,5 +1,5 @@
 -- What is printed of a good reply.
-use Rattle.std.specs.Prelude.{◌≡◌, ℕ, Bool, true, false, IsTrue, if◌then◌else◌, codes, List, [], ◌∷◌, ◌++◌, Option, None, Some}
+use Rattle.std.specs.Prelude.{◌≡◌, ℕ, Bool, true, false, IsTrue, ◌||◌, if◌then◌else◌, bytes_eq, codes, List, [], ◌∷◌, ◌++◌, Option, None, Some}
 use Rattle.std.specs.List.{list_all}
 use Rattle.std.specs.Str.{str_eq_ignore_ascii_case}
 use Rattle.json_doc.specs.declared.doc.Doc as doc
@@ -61,14 +61,16 @@ abbrev pub IsBodyText : Option (List Member) → List ℕ → List ℕ → Type 
 IsBodyText None body text = text ≡ []
 IsBodyText (Some members) body text = (d : Doc) × Reads body d × (text_of_body members d ≡ Some text)
 
--- no coding is named (RFC 9110, section 8.4)
+-- a coding that changes nothing (RFC 9110, section 8.4); an empty value names none
 abbrev pub is_plain_coding : Option (List ℕ) → Bool
 is_plain_coding None = true
-is_plain_coding (Some []) = true
-is_plain_coding (Some coding) = str_eq_ignore_ascii_case coding (codes "identity")
+is_plain_coding (Some coding) = bytes_eq coding [] || str_eq_ignore_ascii_case coding (codes "identity")
+
+unfoldable pub is_plain_body : Reply → Bool
+is_plain_body reply = is_plain_coding (header_of (codes "Content-Encoding") reply.headers)
 
 -- the text is what is printed of a reply
 pub record IsOutput (operation : Operation) (reply : Reply) (text : List ℕ) : Type 0 where
   pub good : reply.status ≡ 200
-  pub plain : IsTrue (is_plain_coding (header_of (codes "Content-Encoding") reply.headers))
-  pub printed : IsBodyText operation.output reply.body text
+  pub plain : IsTrue (is_plain_body reply)
+  pub shown : IsBodyText operation.output reply.body text

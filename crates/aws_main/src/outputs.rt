@@ -1,10 +1,13 @@
-ghost use Rattle.std.specs.Prelude.{◌≡◌, ℕ, List, [], None, Some, IsTrue, IfOk, IfErr, MatchResult, option_map};
-ghost use Rattle.json_doc.specs.Grammar.{Reads, put_all};
+ghost use Rattle.std.specs.Prelude.{◌≡◌, ℕ, List, [], Some, IsTrue, IfOk, MatchResult, codes, option_map};
+ghost use Rattle.std.specs.List.{list_all};
+ghost use Rattle.std.specs.Option.{option_copied};
+ghost use Rattle.std.specs.Str.{str_eq_ignore_ascii_case};
+ghost use Rattle.json_doc.specs.Ascii.{is_ascii_text};
+ghost use Rattle.json_doc.specs.Grammar.{put_all};
 ghost use Rattle.http_reply.specs.Fields.{header_of};
-ghost use Rattle.std.specs.Prelude.{codes};
 ghost use Rattle.aws_main.specs.declared.causes.Unbuilt.TheVariants.{OutOfMemory as no_memory};
 ghost use Rattle.aws_main.specs.Finding.{Finds};
-ghost use Rattle.aws_main.specs.Output.{IsBodyText, IsOutput, has_kind, is_plain_coding, is_text, known_of, printed, text_of_body};
+ghost use Rattle.aws_main.specs.Output.{IsBodyText, IsOutput, has_kind, is_plain_body, is_text, known_of, printed, text_of_body};
 
 use crate::causes::Unbuilt;
 use crate::documents::object;
@@ -30,15 +33,28 @@ pub fn output(alloc: Global, operation: &Operation, reply: &Reply) -> Result<Tex
 }
 
 /// Whether a reply's body has no coding.
+#[tactic(auto, unfolding(crate::specs::Output::is_plain_body))]
 fn is_plain(reply: &Reply) -> bool
-    ensures { result ≡ is_plain_coding (header_of (codes "Content-Encoding") reply.now.headers) }
+    ensures { result ≡ is_plain_body reply.now }
 {
-    match header(reply, "Content-Encoding") {
+    match coding(reply) {
         None => true,
-        Some(coding) => {
-            coding.is_empty() || coding.as_str().eq_ignore_ascii_case("identity")
-        }
+        Some(coding) => coding.is("") || is_name(coding, "identity"),
     }
+}
+
+fn coding(reply: &Reply) -> Option<&Text>
+    ensures { option_copied result ≡ header_of (codes "Content-Encoding") reply.now.headers }
+{
+    header(reply, "Content-Encoding")
+}
+
+/// Whether a text is a name in ASCII, without regard to the case of letters.
+fn is_name(text: &Text, name: &str) -> bool
+    requires { IsTrue (is_ascii_text name.now) }
+    ensures { result ≡ str_eq_ignore_ascii_case text.now name.now }
+{
+    text.as_str().eq_ignore_ascii_case(name)
 }
 
 /// What is printed of a body in JSON.
@@ -91,9 +107,20 @@ fn has_kind(is_list: bool, value: &Doc) -> bool
 {
     match value {
         Doc::Str(_) => !is_list,
-        Doc::Items(items) => is_list && items.iter().all(|item| is_text(item)),
+        Doc::Items(items) => is_list && are_texts(items.as_slice()),
         _ => false,
     }
+}
+
+fn are_texts(values: &[Doc]) -> bool
+    ensures { result ≡ list_all is_text values.now }
+{
+    for value in values {
+        if !is_text(value) {
+            return false;
+        }
+    }
+    true
 }
 
 #[tactic(auto, unfolding(crate::specs::Output::is_text))]
