@@ -1,2 +1,8 @@
 pub mod Causes
+pub mod Documents
+pub mod Finding
+pub mod Model
+pub mod Names
+pub mod Output
+pub mod Request
 pub mod Words

@@ -6,6 +6,7 @@ mod causes;
 mod documents;
 mod messages;
 mod models;
+mod names;
 mod outputs;
 mod requests;
 mod running;

@@ -1,3 +1,7 @@
+ghost use Rattle.std.specs.Prelude.{◌≡◌, IsTrue, IfOk};
+ghost use Rattle.json_doc.specs.Ascii.{is_ascii_text};
+ghost use Rattle.aws_main.specs.Request.{target_of, content_type_of, headers_of, message_of};
+
 use crate::asking::Asked;
 use crate::models::Operation;
 use aws_world::Message;
@@ -9,34 +13,60 @@ pub fn message(
     alloc: Global,
     asked: &Asked,
     operation: &Operation,
-) -> Result<Message, OutOfMemory> {
-    let mut headers = List::new(alloc);
-    let host = Text::from_str(alloc, "Host")?;
-    headers.push((host, asked.host.copy(alloc)?))?;
-    let target = Text::from_str(alloc, "X-Amz-Target")?;
-    headers.push((target, target_of(alloc, operation)?))?;
-    let content_type = Text::from_str(alloc, "Content-Type")?;
-    headers.push((content_type, content_type_of(alloc, operation)?))?;
+) -> Result<Message, OutOfMemory>
+    ensures { IfOk result (λ message. message ≡ message_of asked.now operation.now) }
+{
     Ok(Message {
-        method: Text::from_str(alloc, "POST")?,
+        method: literal(alloc, "POST")?,
         host: asked.host.copy(alloc)?,
-        path: Text::from_str(alloc, "/")?,
+        path: literal(alloc, "/")?,
         query: List::new(alloc),
-        headers,
+        headers: headers(alloc, asked, operation)?,
         body: Bytes::from_slice(alloc, b"{}")?,
     })
 }
 
+fn headers(
+    alloc: Global,
+    asked: &Asked,
+    operation: &Operation,
+) -> Result<List<(Text, Text)>, OutOfMemory>
+    ensures { IfOk result (λ headers. headers ≡ headers_of asked.now operation.now) }
+{
+    let mut headers = List::new(alloc);
+    let host = literal(alloc, "Host")?;
+    headers.push((host, asked.host.copy(alloc)?))?;
+    let target = literal(alloc, "X-Amz-Target")?;
+    headers.push((target, target_of(alloc, operation)?))?;
+    let content_type = literal(alloc, "Content-Type")?;
+    headers.push((content_type, content_type_of(alloc, operation)?))?;
+    Ok(headers)
+}
+
 /// The prefix of the service's targets, `.` and the operation's name.
-fn target_of(alloc: Global, operation: &Operation) -> Result<Text, OutOfMemory> {
+fn target_of(alloc: Global, operation: &Operation) -> Result<Text, OutOfMemory>
+    ensures { IfOk result (λ target. target ≡ target_of operation.now) }
+{
     let mut target = operation.target_prefix.copy(alloc)?;
-    target.push('.')?;
+    target.push_ascii(".")?;
     target.push_str(operation.name.as_str())?;
     Ok(target)
 }
 
-fn content_type_of(alloc: Global, operation: &Operation) -> Result<Text, OutOfMemory> {
-    let mut content_type = Text::from_str(alloc, "application/x-amz-json-")?;
+fn content_type_of(alloc: Global, operation: &Operation) -> Result<Text, OutOfMemory>
+    ensures { IfOk result (λ content_type. content_type ≡ content_type_of operation.now) }
+{
+    let mut content_type = literal(alloc, "application/x-amz-json-")?;
     content_type.push_str(operation.json_version.as_str())?;
     Ok(content_type)
+}
+
+/// A text in ASCII.
+fn literal(alloc: Global, text: &str) -> Result<Text, OutOfMemory>
+    requires { IsTrue (is_ascii_text text.now) }
+    ensures { IfOk result (λ made. made ≡ text.now) }
+{
+    let mut made = Text::new(alloc);
+    made.push_ascii(text)?;
+    Ok(made)
 }

@@ -1,0 +1,7 @@
+use Rattle.std.proofs.Common.{codes, refl, ap, ◌∙◌}
+use Rattle.http_reply.specs.Fields.{header_of}
+use Rattle.json_doc.proofs.Texts.{chars_ascii}
+use Rattle.aws_main.proofs.outputs.coding.Goals as goal
+
+pub returns : goal.returns
+returns c = c.header.ensures ∙ ap (λ name. header_of name c.args.reply.now.headers) (chars_ascii (codes "Content-Encoding") refl)

@@ -1,0 +1,10 @@
+use Rattle.std.proofs.Common.{ap, ◌∙◌}
+use Rattle.std.specs.Str.{str_eq_ignore_ascii_case}
+use Rattle.json_doc.proofs.Texts.{chars_ascii}
+use Rattle.http_reply.proofs.CaseLemmas.{same_but_case}
+use Rattle.aws_main.proofs.outputs.is_name.Goals as goal
+
+pub returns : goal.returns
+returns c =
+    same_but_case c.eq_ignore_ascii_case.result c.args.text.now c.as_str.result.now c.args.name.now c.as_str.ensures.bytes c.utf8.name c.eq_ignore_ascii_case.ensures.test
+    ∙ ap (str_eq_ignore_ascii_case c.args.text.now) (chars_ascii c.args.name.now c.requires)
