@@ -66,7 +66,9 @@ fn body_text(alloc: Global, members: &List<Member>, body: &[u8]) -> Result<Text,
     match read(alloc, body) {
         Ok(doc) => document_text(alloc, members, &doc),
         Err(ReadFault::OutOfMemory) => Err(Unbuilt::OutOfMemory),
-        Err(ReadFault::NotBuilt) => Err(Unbuilt::NotBuilt),
+        Err(ReadFault::Syntax(_)) => Err(Unbuilt::NotBuilt),
+        Err(ReadFault::TooDeep(_)) => Err(Unbuilt::NotBuilt),
+        Err(ReadFault::NumberTooWide(_)) => Err(Unbuilt::NotBuilt),
     }
 }
 
