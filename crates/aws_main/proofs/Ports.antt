@@ -1,5 +1,5 @@
 -- The parts of the test of a port.
-use Rattle.std.proofs.Common.{◌≡◌, ℕ, ◌<◌, ◌≤◌, ◌^◌, Bool, true, false, cond, eqb, ltb, leb, Option, Some, None, List, [], ◌∷◌, length, get_or, sym, ◌∙◌, ap, arith}
+use Rattle.std.proofs.Common.{◌≡◌, ℕ, ◌<◌, ◌≤◌, ◌^◌, true, false, eqb, ltb, leb, Some, None, List, [], ◌∷◌, length, get_or, sym, ◌∙◌, ap, arith}
 use Rattle.std.specs.Prelude.{◌≢◌, ◌&&◌, not}
 use Rattle.std.specs.Char.{is_ascii_digit}
 use Rattle.std.specs.Int.{is_in_range}
@@ -30,11 +30,11 @@ is_port-other digits other = and_right _ _ (and_left _ _ other)
 first_digit : (digits : List ℕ) → 0 < length digits → get_or digits 0 0 ≢ 48 → list_all is_ascii_digit digits ≡ true → is_in_range 49 57 (get_or digits 0 0) ≡ true
 first_digit [] some other all = absurd (omega arith)
 first_digit (d ∷ ds) some other all =
-  let digit : is_in_range 48 57 d ≡ true = (and_parts (is_in_range 48 57 d) (list_all is_ascii_digit ds) all).0 in
-  let ends : (leb 48 d ≡ true) × (leb d 57 ≡ true) = and_parts (leb 48 d) (leb d 57) digit in
-  let low : 48 ≤ d = leb-true 48 d ends.0 in
-  let above : 49 ≤ d = omega arith in
-  and_from (leb 49 d) (leb d 57) (le-leb 49 d above) ends.1
+    let digit : is_in_range 48 57 d ≡ true = (and_parts (is_in_range 48 57 d) (list_all is_ascii_digit ds) all).0 in
+    let ends : (leb 48 d ≡ true) × (leb d 57 ≡ true) = and_parts (leb 48 d) (leb d 57) digit in
+    let low : 48 ≤ d = leb-true 48 d ends.0 in
+    let above : 49 ≤ d = omega arith in
+    and_from (leb 49 d) (leb d 57) (le-leb 49 d above) ends.1
 
 some_digit : (digits : List ℕ) → is_in_range 49 57 (get_or digits 0 0) ≡ true → 0 < length digits
 some_digit [] first = absurd (false≢true first)
@@ -42,12 +42,12 @@ some_digit (d ∷ ds) first = omega arith
 
 pub is_port-from : (digits : List ℕ) → get_or digits 0 0 ≢ 48 → list_all is_ascii_digit digits ≡ true → (0 < length digits) × (digits_value 10 digits < 2 ^ 16) → digits_value 10 digits ≢ 80 → is_port digits ≡ true
 is_port-from digits other all read not_80 =
-  and_from _ _ (first_digit digits read.0 other all)
+    and_from _ _ (first_digit digits read.0 other all)
     (and_from _ _ all (and_from _ _ (lt-ltb _ _ read.1) (not_from_false _ (ne_eqb _ _ not_80))))
 
 pub is_port-unread : (digits : List ℕ) → ((0 < length digits) × (digits_value 10 digits < 2 ^ 16) → ⊥) → is_port digits ≡ false
 is_port-unread digits unread = false_from_ne_true (is_port digits) (λ allowed.
-  let outer : (is_in_range 49 57 (get_or digits 0 0) ≡ true) × ((list_all is_ascii_digit digits && (ltb (digits_value 10 digits) 65536 && not (eqb (digits_value 10 digits) 80))) ≡ true) = and_parts _ _ allowed in
-  let inner : (list_all is_ascii_digit digits ≡ true) × ((ltb (digits_value 10 digits) 65536 && not (eqb (digits_value 10 digits) 80)) ≡ true) = and_parts _ _ outer.1 in
-  let last : (ltb (digits_value 10 digits) 65536 ≡ true) × (not (eqb (digits_value 10 digits) 80) ≡ true) = and_parts _ _ inner.1 in
-  unread (some_digit digits outer.0, ltb-true _ _ last.0))
+    let outer : (is_in_range 49 57 (get_or digits 0 0) ≡ true) × ((list_all is_ascii_digit digits && (ltb (digits_value 10 digits) 65536 && not (eqb (digits_value 10 digits) 80))) ≡ true) = and_parts _ _ allowed in
+    let inner : (list_all is_ascii_digit digits ≡ true) × ((ltb (digits_value 10 digits) 65536 && not (eqb (digits_value 10 digits) 80)) ≡ true) = and_parts _ _ outer.1 in
+    let last : (ltb (digits_value 10 digits) 65536 ≡ true) × (not (eqb (digits_value 10 digits) 80) ≡ true) = and_parts _ _ inner.1 in
+    unread (some_digit digits outer.0, ltb-true _ _ last.0))

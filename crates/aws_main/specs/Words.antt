@@ -26,14 +26,14 @@ parts_of command = slice_split (λ b. b == 45) command
 -- the operation of a command: its parts, each with its first letter raised, without the dashes
 abbrev pub operation_of : List ℕ → Option (List ℕ)
 operation_of command =
-  if list_all (is_small_word 2) (parts_of command)
-  then Some (flat_map (λ part. raised (chars part)) (parts_of command))
-  else None
+    if list_all (is_small_word 2) (parts_of command)
+    then Some (flat_map (λ part. raised (chars part)) (parts_of command))
+    else None
 
 -- digits of which the first is not 0, with a value of at most 65535 that is not 80
 abbrev pub is_port : List ℕ → Bool
 is_port digits =
-  is_in_range 49 57 (slice_index digits 0) && (list_all is_ascii_digit digits
+    is_in_range 49 57 (slice_index digits 0) && (list_all is_ascii_digit digits
     && (nat_lt (digits_value 10 digits) 65536 && not (digits_value 10 digits == 80)))
 
 abbrev pub port_of : List ℕ → Option ℕ
@@ -49,11 +49,11 @@ is_this_machine host = bytes_eq host (codes "127.0.0.1") || bytes_eq host (codes
 -- HOST:P, as a text and as the host and the port that it names
 abbrev pub named_by : List ℕ → Option (List ℕ × Target)
 named_by authority =
-  if is_this_machine (before_first (λ b. b == 58) authority)
-  then option_map
+    if is_this_machine (before_first (λ b. b == 58) authority)
+    then option_map
     (λ port. (chars authority, record { host = chars (before_first (λ b. b == 58) authority); port = port }))
     (port_of (after_first (λ b. b == 58) authority))
-  else None
+    else None
 
 -- what http://HOST:P names
 abbrev pub address_of : List ℕ → Option (List ℕ × Target)
@@ -61,20 +61,20 @@ address_of url = option_and_then named_by (after_front (codes "http://") url)
 
 abbrev pub call_of : List ℕ → List ℕ → List ℕ → Option Asked
 call_of service command url =
-  if is_small_word 1 (encode_utf8_all service)
-  then option_and_then
+    if is_small_word 1 (encode_utf8_all service)
+    then option_and_then
     (λ operation. option_map
-      (λ address. record { service = service; operation = operation; target = address.1; host = address.0 })
-      (address_of (encode_utf8_all url)))
+    (λ address. record { service = service; operation = operation; target = address.1; host = address.0 })
+    (address_of (encode_utf8_all url)))
     (operation_of (encode_utf8_all command))
-  else None
+    else None
 
 -- SERVICE OPERATION --no-sign-request --endpoint-url URL, and nothing else
 abbrev pub asked_of : List (List ℕ) → Option Asked
 asked_of (service ∷ command ∷ unsigned ∷ endpoint ∷ url ∷ []) =
-  if bytes_eq unsigned (codes "--no-sign-request") && bytes_eq endpoint (codes "--endpoint-url")
-  then call_of service command url
-  else None
+    if bytes_eq unsigned (codes "--no-sign-request") && bytes_eq endpoint (codes "--endpoint-url")
+    then call_of service command url
+    else None
 asked_of words = None
 
 -- an answer gives the value that is due, and is NotBuilt only where none is

@@ -13,6 +13,6 @@ and_enough least n b t enough same = rw (le-leb least n enough) same
 
 pub returns-then-word-least : goal.returns-then-word-least
 returns-then-word-least c =
-  and_enough _ _ _ _ c.if-word-least.true
+    and_enough _ _ _ _ c.if-word-least.true
     (all_from_yields_List is_ascii_lowercase _ _ _ c.all.ensures.ran
-      (YieldsList-from_bytes c.args.word.now c.bytes.ensures.rest) (λ x b q k. search (rules, tests)))
+    (YieldsList-from_bytes c.args.word.now c.bytes.ensures.rest) (λ x b q k. search (rules, tests)))

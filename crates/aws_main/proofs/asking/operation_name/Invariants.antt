@@ -7,5 +7,5 @@ use Rattle.aws_main.proofs.asking.operation_name.Given as goal
 
 abbrev pub invariant-loop-part : goal.invariant-loop-part
 invariant-loop-part l =
-  (list_all (is_small_word 2) (map (λ part. part.now) l.yielded) ≡ true)
-  × (l.name ≡ flat_map (λ part. raised (chars part)) (map (λ part. part.now) l.yielded))
+    (list_all (is_small_word 2) (map (λ part. part.now) l.yielded) ≡ true)
+    × (l.name ≡ flat_map (λ part. raised (chars part)) (map (λ part. part.now) l.yielded))

@@ -1,4 +1,4 @@
-use Rattle.std.proofs.Common.{◌≡◌, ℕ, ◌<◌, ◌^◌, ◌∙◌, sym, lit<, Bool, true, false, List, length, get_or, rules}
+use Rattle.std.proofs.Common.{◌≡◌, ℕ, ◌<◌, ◌^◌, ◌∙◌, sym, lit<, Bool, true, false, length, rules}
 use Rattle.std.specs.Prelude.{◌≢◌}
 use Rattle.std.specs.Char.{is_ascii_digit}
 use Rattle.std.specs.List.{list_all}
@@ -22,34 +22,34 @@ along a b c same other e = other (same ∙ e)
 
 pub returns-then-starts_with : goal.returns-then-starts_with
 returns-then-starts_with c =
-  elim c.then-starts_with.branch [
-    then-starts_with-via-then-starts_with w ↦
-      port_of-none c.args.digits.now (is_port-zero c.args.digits.now
-        ((starts_char 48 c.args.digits.now c.starts_with.result c.starts_with.ensures.cases (lit< tt) (lit< tt)).0 w.if-starts_with.true))
-  | then-starts_with-via-else-starts_with+then-not-all w ↦
-      port_of-none c.args.digits.now (is_port-other c.args.digits.now
-        (sym (all_from_yields_List is_ascii_digit _ _ w.all.result w.all.ensures.ran
+    elim c.then-starts_with.branch [
+      | then-starts_with-via-then-starts_with w ↦
+          port_of-none c.args.digits.now (is_port-zero c.args.digits.now
+          ((starts_char 48 c.args.digits.now c.starts_with.result c.starts_with.ensures.cases (lit< tt) (lit< tt)).0 w.if-starts_with.true))
+      | then-starts_with-via-else-starts_with+then-not-all w ↦
+          port_of-none c.args.digits.now (is_port-other c.args.digits.now
+          (sym (all_from_yields_List is_ascii_digit _ _ w.all.result w.all.ensures.ran
           (YieldsList-from_bytes c.args.digits.now w.bytes.ensures.rest) (λ x b q k. search (rules, tests))) ∙ w.if-not-all.true))
-  ]
+    ]
 
 pub returns-in-Ok : goal.returns-in-Ok
 returns-in-Ok c =
-  let all : list_all is_ascii_digit c.args.digits.now ≡ true =
+    let all : list_all is_ascii_digit c.args.digits.now ≡ true =
     sym (all_from_yields_List is_ascii_digit _ _ c.all.result c.all.ensures.ran
-      (YieldsList-from_bytes c.args.digits.now c.bytes.ensures.rest) (λ x b q k. search (rules, tests))) ∙ c.if-not-all.false in
-  let read : ((0 < length c.args.digits.now) × (digits_value 10 c.args.digits.now < 2 ^ 16)) × (c.in-Ok.port ≡ digits_value 10 c.args.digits.now) =
+    (YieldsList-from_bytes c.args.digits.now c.bytes.ensures.rest) (λ x b q k. search (rules, tests))) ∙ c.if-not-all.false in
+    let read : ((0 < length c.args.digits.now) × (digits_value 10 c.args.digits.now < 2 ^ 16)) × (c.in-Ok.port ≡ digits_value 10 c.args.digits.now) =
     rw c.in-Ok.is at (parse_digits numerals 16 c.args.digits.now c.parse.result c.parse.ensures.value.0 all) in
-  port_of-some c.args.digits.now c.in-Ok.port
+    port_of-some c.args.digits.now c.in-Ok.port
     (is_port-from c.args.digits.now
-      (differs c.starts_with.result _ 48 (starts_char 48 c.args.digits.now c.starts_with.result c.starts_with.ensures.cases (lit< tt) (lit< tt)) c.if-starts_with.false)
-      all read.0 (along _ _ 80 read.1 c.if-port-ne80.true))
+    (differs c.starts_with.result _ 48 (starts_char 48 c.args.digits.now c.starts_with.result c.starts_with.ensures.cases (lit< tt) (lit< tt)) c.if-starts_with.false)
+    all read.0 (along _ _ 80 read.1 c.if-port-ne-HTTP_PORT.true))
     read.1
 
 pub returns-in_default-2 : goal.returns-in_default-2
 returns-in_default-2 c =
-  let all : list_all is_ascii_digit c.args.digits.now ≡ true =
+    let all : list_all is_ascii_digit c.args.digits.now ≡ true =
     sym (all_from_yields_List is_ascii_digit _ _ c.all.result c.all.ensures.ran
-      (YieldsList-from_bytes c.args.digits.now c.bytes.ensures.rest) (λ x b q k. search (rules, tests))) ∙ c.if-not-all.false in
-  let unread : (0 < length c.args.digits.now) × (digits_value 10 c.args.digits.now < 2 ^ 16) → ⊥ =
+    (YieldsList-from_bytes c.args.digits.now c.bytes.ensures.rest) (λ x b q k. search (rules, tests))) ∙ c.if-not-all.false in
+    let unread : (0 < length c.args.digits.now) × (digits_value 10 c.args.digits.now < 2 ^ 16) → ⊥ =
     rw c.in_default.is at (parse_digits numerals 16 c.args.digits.now c.parse.result c.parse.ensures.value.0 all) in
-  port_of-none c.args.digits.now (is_port-unread c.args.digits.now unread)
+    port_of-none c.args.digits.now (is_port-unread c.args.digits.now unread)
