@@ -1,13 +1,13 @@
 -- The parts of the test of a port.
-use Rattle.std.proofs.Common.{◌≡◌, ℕ, ◌<◌, ◌≤◌, ◌^◌, Bool, true, false, cond, eqb, ltb, leb, Option, Some, None, List, [], ◌∷◌, length, get_or, sym, ◌∙◌, ap, arith}
-use Rattle.std.specs.Prelude.{◌≢◌, ◌&&◌, not}
+use Rattle.std.proofs.Common.{◌≡◌, ℕ, ◌<◌, ◌≤◌, ◌^◌, true, false, eqb, ltb, leb, Some, None, List, [], ◌∷◌, length, get_or, sym, ◌∙◌, ap, arith}
+use Rattle.std.specs.Prelude.{◌≢◌, not}
 use Rattle.std.specs.Char.{is_ascii_digit}
 use Rattle.std.specs.Int.{is_in_range}
 use Rattle.std.specs.List.{list_all}
 use Rattle.std.specs.Str.Parse.{digits_value}
 use Rattle.std.proofs.lemmas.Str.Parse.{IsNumeralModel, numerals_by_value}
 use Rattle.std.proofs.lemmas.Bool.{and_parts, and_from, and_left, and_right, le-leb, leb-true, lt-ltb, ltb-true, ne_eqb, not_from_false, false≢true, false_from_ne_true, cond-true, cond-false}
-use Rattle.aws_main.specs.Words.{is_port, port_of}
+use Rattle.aws_main.specs.Words.{is_plain_number, is_allowed_port, is_port, port_of}
 use Rattle.std.proofs.Common.{rules}
 
 -- the texts of digits are those that `parse` reads
@@ -21,10 +21,10 @@ pub port_of-some : (digits : List ℕ) (port : ℕ) → is_port digits ≡ true 
 port_of-some digits port allowed same = ap Some same ∙ sym (cond-true (is_port digits) (Some (digits_value 10 digits)) None allowed)
 
 pub is_port-zero : (digits : List ℕ) → get_or digits 0 0 ≡ 48 → is_port digits ≡ false
-is_port-zero digits zero_first = and_left _ _ (ap (is_in_range 49 57) zero_first)
+is_port-zero digits zero_first = and_left _ _ (and_left _ _ (ap (is_in_range 49 57) zero_first))
 
 pub is_port-other : (digits : List ℕ) → list_all is_ascii_digit digits ≡ false → is_port digits ≡ false
-is_port-other digits other = and_right _ _ (and_left _ _ other)
+is_port-other digits other = and_left _ _ (and_right _ _ other)
 
 -- the first of some digits is 1 to 9 where it isn't 0
 first_digit : (digits : List ℕ) → 0 < length digits → get_or digits 0 0 ≢ 48 → list_all is_ascii_digit digits ≡ true → is_in_range 49 57 (get_or digits 0 0) ≡ true
@@ -42,12 +42,12 @@ some_digit (d ∷ ds) first = omega arith
 
 pub is_port-from : (digits : List ℕ) → get_or digits 0 0 ≢ 48 → list_all is_ascii_digit digits ≡ true → (0 < length digits) × (digits_value 10 digits < 2 ^ 16) → digits_value 10 digits ≢ 80 → is_port digits ≡ true
 is_port-from digits other all read not_80 =
-    and_from _ _ (first_digit digits read.0 other all)
-    (and_from _ _ all (and_from _ _ (lt-ltb _ _ read.1) (not_from_false _ (ne_eqb _ _ not_80))))
+    and_from _ _ (and_from _ _ (first_digit digits read.0 other all) all)
+    (and_from _ _ (lt-ltb _ _ read.1) (not_from_false _ (ne_eqb _ _ not_80)))
 
 pub is_port-unread : (digits : List ℕ) → ((0 < length digits) × (digits_value 10 digits < 2 ^ 16) → ⊥) → is_port digits ≡ false
 is_port-unread digits unread = false_from_ne_true (is_port digits) (λ allowed.
-    let outer : (is_in_range 49 57 (get_or digits 0 0) ≡ true) × ((list_all is_ascii_digit digits && (ltb (digits_value 10 digits) 65536 && not (eqb (digits_value 10 digits) 80))) ≡ true) = and_parts _ _ allowed in
-    let inner : (list_all is_ascii_digit digits ≡ true) × ((ltb (digits_value 10 digits) 65536 && not (eqb (digits_value 10 digits) 80)) ≡ true) = and_parts _ _ outer.1 in
-    let last : (ltb (digits_value 10 digits) 65536 ≡ true) × (not (eqb (digits_value 10 digits) 80) ≡ true) = and_parts _ _ inner.1 in
-    unread (some_digit digits outer.0, ltb-true _ _ last.0))
+    let both : (is_plain_number digits ≡ true) × (is_allowed_port (digits_value 10 digits) ≡ true) = and_parts _ _ allowed in
+    let plain : (is_in_range 49 57 (get_or digits 0 0) ≡ true) × (list_all is_ascii_digit digits ≡ true) = and_parts _ _ both.0 in
+    let small : (ltb (digits_value 10 digits) 65536 ≡ true) × (not (eqb (digits_value 10 digits) 80) ≡ true) = and_parts _ _ both.1 in
+    unread (some_digit digits plain.0, ltb-true _ _ small.0))

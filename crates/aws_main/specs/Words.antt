@@ -30,11 +30,16 @@ operation_of command =
     then Some (flat_map (λ part. raised (chars part)) (parts_of command))
     else None
 
--- digits of which the first is not 0, with a value of at most 65535 that is not 80
+-- digits of which the first is not 0
+abbrev pub is_plain_number : List ℕ → Bool
+is_plain_number digits = is_in_range 49 57 (slice_index digits 0) && list_all is_ascii_digit digits
+
+-- a number of at most 65535 that is not 80
+abbrev pub is_allowed_port : ℕ → Bool
+is_allowed_port port = nat_lt port 65536 && not (port == 80)
+
 abbrev pub is_port : List ℕ → Bool
-is_port digits =
-    is_in_range 49 57 (slice_index digits 0) && (list_all is_ascii_digit digits
-    && (nat_lt (digits_value 10 digits) 65536 && not (digits_value 10 digits == 80)))
+is_port digits = is_plain_number digits && is_allowed_port (digits_value 10 digits)
 
 abbrev pub port_of : List ℕ → Option ℕ
 port_of digits = if is_port digits then Some (digits_value 10 digits) else None
@@ -46,27 +51,35 @@ after_front front bytes = if starts_with nat_eq bytes front then Some (drop (len
 abbrev pub is_this_machine : List ℕ → Bool
 is_this_machine host = bytes_eq host (codes "127.0.0.1") || bytes_eq host (codes "localhost")
 
--- HOST:P, as a text and as the host and the port that it names
+abbrev pub is_colon : ℕ → Bool
+is_colon b = b == 58
+
+-- the text HOST:P, and the host and the port in it
+abbrev pub named : List ℕ → List ℕ → ℕ → List ℕ × Target
+named authority host port = (chars authority, record { host = chars host; port = port })
+
+-- what HOST:P names, where HOST is this machine and P a port
 abbrev pub named_by : List ℕ → Option (List ℕ × Target)
 named_by authority =
-    if is_this_machine (before_first (λ b. b == 58) authority)
-    then option_map
-    (λ port. (chars authority, record { host = chars (before_first (λ b. b == 58) authority); port = port }))
-    (port_of (after_first (λ b. b == 58) authority))
+    if is_this_machine (before_first is_colon authority)
+    then option_map (named authority (before_first is_colon authority)) (port_of (after_first is_colon authority))
     else None
 
 -- what http://HOST:P names
 abbrev pub address_of : List ℕ → Option (List ℕ × Target)
 address_of url = option_and_then named_by (after_front (codes "http://") url)
 
+abbrev pub asked_at : List ℕ → List ℕ → List ℕ × Target → Asked
+asked_at service operation address = record { service = service; operation = operation; target = address.1; host = address.0 }
+
+abbrev pub asked_with : List ℕ → List ℕ → List ℕ → Option Asked
+asked_with service url operation = option_map (asked_at service operation) (address_of (encode_utf8_all url))
+
+-- what SERVICE OPERATION and URL ask for
 abbrev pub call_of : List ℕ → List ℕ → List ℕ → Option Asked
 call_of service command url =
     if is_small_word 1 (encode_utf8_all service)
-    then option_and_then
-    (λ operation. option_map
-    (λ address. record { service = service; operation = operation; target = address.1; host = address.0 })
-    (address_of (encode_utf8_all url)))
-    (operation_of (encode_utf8_all command))
+    then option_and_then (asked_with service url) (operation_of (encode_utf8_all command))
     else None
 
 -- SERVICE OPERATION --no-sign-request --endpoint-url URL, and nothing else

@@ -7,6 +7,9 @@ use aws_world::Target;
 use json_doc::{OutOfMemory, Text};
 use std::alloc::Global;
 
+/// The port that a URL of HTTP has where it names none (RFC 9110, section 4.2.1).
+const HTTP_PORT: u16 = 80;
+
 /// What the words of a line ask for.
 #[derive(Debug, Drop)]
 pub struct Asked {
@@ -57,8 +60,8 @@ fn is_small_word(word: &str, least: usize) -> bool
     word.len() >= least && word.bytes().all(|b| b.is_ascii_lowercase())
 }
 
-/// The name of an operation whose command name is words of two or more small letters joined by
-/// `-`: the words with their first letters raised.
+/// The name of an operation whose command name is parts of two or more small letters joined by
+/// `-`: the parts with their first letters raised.
 fn operation_name(alloc: Global, command: &str) -> Result<Option<Text>, OutOfMemory>
     ensures { IfOk result (λ name. name ≡ operation_of command.now) }
 {
@@ -83,8 +86,8 @@ fn push_raised(name: &mut Text, part: &str) -> Result<(), OutOfMemory>
     name.push_str(letters.as_str())
 }
 
-/// Host and target of `http://127.0.0.1:P` or `http://localhost:P`, where P isn't the port that
-/// HTTP has without one.
+/// Host and target of `http://127.0.0.1:P` or `http://localhost:P`, where P is a port as `port_of`
+/// reads it.
 fn address(alloc: Global, url: &str) -> Result<(Text, Target), Unbuilt>
     ensures { Gives (address_of url.now) result }
 {
@@ -115,7 +118,7 @@ fn port_of(digits: &str) -> Option<u16>
         return None;
     }
     match digits.parse::<u16>() {
-        Ok(port) if port != 80 => Some(port),
+        Ok(port) if port != HTTP_PORT => Some(port),
         _ => None,
     }
 }

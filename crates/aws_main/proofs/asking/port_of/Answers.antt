@@ -1,4 +1,4 @@
-use Rattle.std.proofs.Common.{◌≡◌, ℕ, ◌<◌, ◌^◌, ◌∙◌, sym, lit<, Bool, true, false, List, length, get_or, rules}
+use Rattle.std.proofs.Common.{◌≡◌, ℕ, ◌<◌, ◌^◌, ◌∙◌, sym, lit<, Bool, true, false, length, rules}
 use Rattle.std.specs.Prelude.{◌≢◌}
 use Rattle.std.specs.Char.{is_ascii_digit}
 use Rattle.std.specs.List.{list_all}
@@ -42,7 +42,7 @@ returns-in-Ok c =
     port_of-some c.args.digits.now c.in-Ok.port
     (is_port-from c.args.digits.now
     (differs c.starts_with.result _ 48 (starts_char 48 c.args.digits.now c.starts_with.result c.starts_with.ensures.cases (lit< tt) (lit< tt)) c.if-starts_with.false)
-    all read.0 (along _ _ 80 read.1 c.if-port-ne80.true))
+    all read.0 (along _ _ 80 read.1 c.if-port-ne-HTTP_PORT.true))
     read.1
 
 pub returns-in_default-2 : goal.returns-in_default-2
