@@ -30,8 +30,8 @@ is_plain_row row = do
   uri ← text_at (codes "requestUri") http
   name ← text_at (codes "name") row
   Some (has_only (codes "name" ∷ codes "http" ∷ codes "input" ∷ codes "output" ∷ []) row
-    && has_only (codes "method" ∷ codes "requestUri" ∷ []) http
-    && bytes_eq method (codes "POST") && bytes_eq uri (codes "/"))
+      && has_only (codes "method" ∷ codes "requestUri" ∷ []) http
+      && bytes_eq method (codes "POST") && bytes_eq uri (codes "/"))
 
 -- the row of an operation, where every name among them is plain
 unfoldable pub row_of : List ℕ → Fields → Option Fields

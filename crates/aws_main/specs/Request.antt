@@ -22,4 +22,5 @@ message_of asked operation = record {
   path = codes "/";
   query = [];
   headers = headers_of asked operation;
-  body = codes "{}" }
+  body = codes "{}";
+}

@@ -102,10 +102,12 @@ fn is_plain_row(row: &Pairs<Doc>) -> Result<bool, Unbuilt>
     let method = text(http.get("method"))?;
     let uri = text(http.get("requestUri"))?;
     text(row.get("name"))?;
-    Ok(has_only(row, &["name", "http", "input", "output"])
-        && has_only(http, &["method", "requestUri"])
-        && method.is("POST")
-        && uri.is("/"))
+    Ok(
+        has_only(row, &["name", "http", "input", "output"])
+            && has_only(http, &["method", "requestUri"])
+            && method.is("POST")
+            && uri.is("/"),
+    )
 }
 
 /// Whether an input, where there is one, has no members.
@@ -135,7 +137,11 @@ fn output_members(
     Ok(Some(read_members(alloc, shapes, pairs)?))
 }
 
-fn read_members(alloc: Global, shapes: &Pairs<Doc>, pairs: &Pairs<Doc>) -> Result<List<Member>, Unbuilt>
+fn read_members(
+    alloc: Global,
+    shapes: &Pairs<Doc>,
+    pairs: &Pairs<Doc>,
+) -> Result<List<Member>, Unbuilt>
     ensures { Finds (λ members. members) (each (member_of shapes.now) pairs.now) result }
 {
     let mut members = List::new(alloc);

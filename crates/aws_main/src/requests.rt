@@ -9,11 +9,7 @@ use json_doc::{Bytes, List, OutOfMemory, Text};
 use std::alloc::Global;
 
 /// The request of an operation without input, by the protocol `json`.
-pub fn message(
-    alloc: Global,
-    asked: &Asked,
-    operation: &Operation,
-) -> Result<Message, OutOfMemory>
+pub fn message(alloc: Global, asked: &Asked, operation: &Operation) -> Result<Message, OutOfMemory>
     ensures { IfOk result (λ message. message ≡ message_of asked.now operation.now) }
 {
     Ok(Message {

@@ -17,9 +17,10 @@ no_end BehindSmall other = absurd (other refl)
 pub loop-c-preserved : goal.loop-c-preserved
 loop-c-preserved c =
     let utf8 = c.loop-c.invariant.0 in
-    let seam = c.in-Some.ensures.steps.0 in
-    (IsUtf8-past_char _ _ _ utf8 seam,
-     sym (c.in-Some-place_behind.ensures.fits (chars (chars_rest c.next.new.self))) ∙ ap (fits_at c.loop-c.place) (sym (chars_past_char _ _ _ utf8 seam)) ∙ c.loop-c.invariant.1)
+    let seam = c.in-Some.ensures.steps.0 in (
+      IsUtf8-past_char _ _ _ utf8 seam,
+      sym (c.in-Some-place_behind.ensures.fits (chars (chars_rest c.next.new.self))) ∙ ap (fits_at c.loop-c.place) (sym (chars_past_char _ _ _ utf8 seam)) ∙ c.loop-c.invariant.1,
+    )
 
 pub returns-in-BehindSmall : goal.returns-in-BehindSmall
 returns-in-BehindSmall c =
