@@ -118,11 +118,11 @@ mod tests {
         assert_eq!(rt; link.send(b"ping"), Ok(4));
         let mut room = [0u8; 8];
         assert_eq!(rt; peer.read(&mut room)?, 4);
-        assert_eq!(rt; room[..4], *b"ping");
+        assert_eq!(rt; room[..4], *b"ping".as_slice());
         peer.write_all(b"pong")?;
         drop(peer);
         assert_eq!(rt; link.receive(&mut room), Ok(4));
-        assert_eq!(rt; room[..4], *b"pong");
+        assert_eq!(rt; room[..4], *b"pong".as_slice());
         assert_eq!(rt; link.receive(&mut room), Ok(0));
         link.close();
         drop(listener);
