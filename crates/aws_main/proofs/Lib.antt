@@ -1,3 +1,5 @@
 pub mod Each
 pub mod Finds
 pub mod Ports
+pub mod Newest
+pub mod Service

@@ -6,3 +6,4 @@ pub mod Names
 pub mod Output
 pub mod Request
 pub mod Words
+pub mod Folder

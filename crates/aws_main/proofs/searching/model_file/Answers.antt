@@ -1,0 +1,34 @@
+use Rattle.std.proofs.Common.{◌≡◌, ◌≤◌, Some, Err, length, sym, ap, ◌∙◌, subst}
+use Rattle.std.specs.Prelude.{IfOk}
+use Rattle.aws_world.specs.FileTree.{IsListing}
+use Rattle.aws_main.specs.Folder.{last_some, model_at, IsModelFile, IsServiceFolder}
+use Rattle.aws_main.proofs.Newest.{both_told, all_told, reason_same, none_below, none_newest, model_of}
+use Rattle.aws_main.proofs.Service.{told}
+use Rattle.aws_main.proofs.searching.model_file.Goals as goal
+
+pub returns-in-Err-clause-refused : goal.returns-in-Err-clause-refused
+returns-in-Err-clause-refused g c =
+    told _ _ (g.F.Files.holds c.args.files.now) c.in-Err.ensures.refused
+    (λ held none refused bytes model. none (ap Err (reason_same _ _ refused)) model.folder model.folder_is)
+
+pub returns-in-Err-list-clause-refused : goal.returns-in-Err-list-clause-refused
+returns-in-Err-list-clause-refused g c =
+    both_told _ _ _ _ _ c.in-Ok.ensures.kept c.in-Ok.ensures.found c.in-Err-list.ensures.refused
+    (λ held place empty refused. none_below c.args.env.now.pairs held c.args.service.now _ place (empty (ap Err (reason_same _ _ refused))))
+
+pub returns-clause-found : goal.returns-clause-found
+returns-clause-found g c =
+    all_told _ _ (λ held bytes. last_some (model_at c.in-Ok.folder held) c.as_slice.result.now ≡ Some bytes) (λ held. IsModelFile c.args.env.now.pairs held c.args.service.now)
+    c.newest.result _ _ _ c.in-Ok.ensures.kept (c.in-Ok-list.ensures.kept ∙ c.in-Ok.ensures.kept)
+    c.in-Ok.ensures.found c.in-Ok-list.ensures.names c.newest.ensures.found
+    (λ held bytes is place listing found.
+    model_of c.args.env.now.pairs held c.args.service.now c.in-Ok.folder c.as_slice.result.now bytes place (subst (IsListing c.in-Ok.folder held) (sym c.as_slice.ensures) listing) found
+    (subst (λ result. IfOk result (λ bytes. length bytes ≤ 33554432)) is c.newest.ensures.small))
+
+pub returns-clause-refused : goal.returns-clause-refused
+returns-clause-refused g c =
+    both_told _ _ _ _ _ (c.in-Ok-list.ensures.kept ∙ c.in-Ok.ensures.kept)
+    (both_told (λ held. IsServiceFolder c.args.env.now.pairs held c.args.service.now c.in-Ok.folder) (λ held. IsListing c.in-Ok.folder held c.in-Ok-list.versions)
+    (λ held. IsServiceFolder c.args.env.now.pairs held c.args.service.now c.in-Ok.folder × IsListing c.in-Ok.folder held c.in-Ok-list.versions) _ _ c.in-Ok.ensures.kept c.in-Ok.ensures.found c.in-Ok-list.ensures.names (λ held place listing. (place, listing)))
+    c.newest.ensures.refused
+    (λ held both none refused. none_newest c.args.env.now.pairs held c.args.service.now c.in-Ok.folder c.as_slice.result.now both.0 (subst (IsListing c.in-Ok.folder held) (sym c.as_slice.ensures) both.1) (none refused))
