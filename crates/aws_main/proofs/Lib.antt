@@ -3,3 +3,7 @@ pub mod Finds
 pub mod Ports
 pub mod Newest
 pub mod Service
+pub mod Fronts
+pub mod Saying
+pub mod LinePlans
+pub mod Courses

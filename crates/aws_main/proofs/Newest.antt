@@ -140,6 +140,20 @@ newest_found folder files names bytes listing e =
 some_same : {A : Type 0} (x y : A) → Some x ≡ Some y → x ≡ y
 some_same x y e = cc
 
+-- what the listed names give last is what the newest version has
+newest_same : (folder : List ℕ) (files : List (List ℕ × List ℕ)) (names : List (List ℕ)) (version bytes last_bytes : List ℕ) → IsListing folder files names
+    → last_some (model_at folder files) names ≡ Some last_bytes → IsNewest folder files version → model_at folder files version ≡ Some bytes → last_bytes ≡ bytes
+newest_same folder files names version bytes last_bytes listing is newest here =
+    let f = model_at folder files in
+    let last : IsLastGiving f names last_bytes = last_giving f names last_bytes listing.ascending is in
+    elim (by_place names version last.name listing.ascending ((listing.exact version).1 newest.listed) last.among) [
+      | inl before ↦ (let e : Some last_bytes ≡ None = sym last.gives ∙ newest.newest last.name ((listing.exact last.name).0 last.among) before in cc)
+      | inr more ↦ elim more [
+        | inl same ↦ some_same last_bytes bytes (sym last.gives ∙ ap f (sym same) ∙ here)
+        | inr after ↦ (let e : Some bytes ≡ None = sym here ∙ last.later version ((listing.exact version).1 newest.listed) after in cc)
+      ]
+    ]
+
 missing_by : (folder : List ℕ) (files : List (List ℕ × List ℕ)) (names : List (List ℕ)) (version bytes : List ℕ) (limit : ℕ) (found : Option (List ℕ))
     → last_some (model_at folder files) names ≡ found → IsListing folder files names → IsNoneOrLonger limit found → IsNewest folder files version
     → model_at folder files version ≡ Some bytes → length bytes ≤ limit → ⊥
@@ -147,15 +161,8 @@ missing_by folder files names version bytes limit None is listing none newest he
     let nothing = last_some-nowhere (model_at folder files) names is version ((listing.exact version).1 newest.listed) in
     let e : Some bytes ≡ None = sym here ∙ nothing in cc
 missing_by folder files names version bytes limit (Some long) is listing longer newest here small =
-    let f = model_at folder files in
-    let last : IsLastGiving f names long = last_giving f names long listing.ascending is in
-    elim (by_place names version last.name listing.ascending ((listing.exact version).1 newest.listed) last.among) [
-      | inl before ↦ (let e : Some long ≡ None = sym last.gives ∙ newest.newest last.name ((listing.exact last.name).0 last.among) before in cc)
-      | inr more ↦ elim more [
-        | inl same ↦ (let e : bytes ≡ long = some_same bytes long (sym here ∙ ap f same ∙ last.gives) in let n = ap length e in omega arith)
-        | inr after ↦ (let e : Some bytes ≡ None = sym here ∙ last.later version ((listing.exact version).1 newest.listed) after in cc)
-      ]
-    ]
+    let e : long ≡ bytes = newest_same folder files names version bytes long listing is newest here in
+    let n = ap length e in omega arith
 
 -- where the listed names give nothing, or something too long, no newest version has a model of that size
 pub newest_missing : (folder : List ℕ) (files : List (List ℕ × List ℕ)) (names : List (List ℕ)) (version bytes : List ℕ) (limit : ℕ) → IsListing folder files names
@@ -228,6 +235,14 @@ none_newest env files service folder names place listing none bytes model =
     let same = one_service_folder env files service model.folder folder model.folder_is place in
     newest_missing folder files names model.version bytes 33554432 listing none (subst (λ f. IsNewest f files model.version) same model.version_is)
     (subst (λ f. model_at f files model.version ≡ Some bytes) same model.here) model.small
+
+-- a service has one model file at most: that at the last version that has one
+pub one_model : (env files : List (List ℕ × List ℕ)) (service folder : List ℕ) (names : List (List ℕ)) (made : List ℕ) → IsServiceFolder env files service folder
+    → IsListing folder files names → last_some (model_at folder files) names ≡ Some made → (bytes : List ℕ) → IsModelFile env files service bytes → made ≡ bytes
+one_model env files service folder names made place listing found bytes model =
+    let same = one_service_folder env files service model.folder folder model.folder_is place in
+    newest_same folder files names model.version bytes made listing found (subst (λ f. IsNewest f files model.version) same model.version_is)
+    (subst (λ f. model_at f files model.version ≡ Some bytes) same model.here)
 
 -- the model at the last version that has one is the service's
 pub model_of : (env files : List (List ℕ × List ℕ)) (service folder : List ℕ) (names : List (List ℕ)) (bytes : List ℕ) → IsServiceFolder env files service folder → IsListing folder files names

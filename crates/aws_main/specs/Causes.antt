@@ -59,3 +59,9 @@ pub record HasLinkCause {T : Type 0} (before now : ℕ) (result : Result T Unans
 -- a front of the bytes was put at the end
 abbrev pub GainsFront : List ℕ → List ℕ → List ℕ → Type 0
 GainsFront bytes before after = (n : ℕ) × (after ≡ before ++ take n bytes)
+
+-- a fault of a file is at a path of this kind
+abbrev pub FaultsAt : (List ℕ → Type 0) → Unread → Type 0
+FaultsAt P (read_fault path) = P path
+FaultsAt P read_not_built = Unit {0}
+FaultsAt P read_no_memory = Unit {0}

@@ -63,3 +63,18 @@ pub record IsModelFile (env files : List (List ℕ × List ℕ)) (service bytes 
   pub version_is : IsNewest folder files version
   pub here : model_at folder files version ≡ Some bytes
   pub small : length bytes ≤ 33554432
+
+-- a service's folder is this path in the folder that the environment names
+abbrev pub IsPathInRoot : List (List ℕ × List ℕ) → List ℕ → List ℕ → Type 0
+IsPathInRoot env service path = (root : List ℕ) × (root_of env ≡ Some root) × (path ≡ below root service)
+
+-- the path of some version's model file in a folder
+abbrev pub IsVersionPath : List ℕ → List ℕ → Type 0
+IsVersionPath folder path = (version : List ℕ) × (path ≡ model_path folder version)
+
+-- a path at which a service's files are looked for: the folder that the environment names, the
+-- service's folder in it, and the model file of a version in that
+pub data IsLookedAt (env : List (List ℕ × List ℕ)) (service path : List ℕ) : Type 0 where
+  at_root : root_of env ≡ Some path → IsLookedAt env service path
+  at_folder : IsPathInRoot env service path → IsLookedAt env service path
+  at_version : (folder : List ℕ) → IsPathInRoot env service folder → IsVersionPath folder path → IsLookedAt env service path

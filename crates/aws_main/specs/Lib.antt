@@ -1,6 +1,8 @@
 pub mod Causes
+pub mod Course
 pub mod Documents
 pub mod Finding
+pub mod Messages
 pub mod Model
 pub mod Names
 pub mod Output

@@ -1,6 +1,7 @@
 //! The command: from its words to its output.
 #![tactic(auto)]
 
+mod answering;
 mod asking;
 mod causes;
 mod documents;
@@ -8,6 +9,7 @@ mod messages;
 mod models;
 mod names;
 mod outputs;
+mod planning;
 mod requests;
 mod running;
 mod searching;

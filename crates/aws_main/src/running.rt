@@ -1,18 +1,16 @@
 ghost use Rattle.std.specs.Prelude.{◌≡◌, ◌≤◌, false, None};
-ghost use Rattle.aws_world.specs.Told.{Rose};
-ghost use Rattle.aws_main.specs.Causes.{status_of, HasFileCause, IsFileFault, IsLost, IsOutFault, HasLinkCause};
+ghost use Rattle.aws_world.specs.Told.{Tells, Rose};
+ghost use Rattle.aws_main.specs.Causes.{status_of, IsFileFault, IsLost, IsOutFault};
+ghost use Rattle.aws_main.specs.Course.{Course, IsCourse, Connects, EndsIn, Prints};
+ghost use Rattle.aws_main.specs.Messages.{Says, message_bytes};
 
-use crate::asking::{Asked, read_words};
-use crate::causes::{Cause, Ending, Unanswered, Unbuilt, Unread};
+use crate::answering::answer;
+use crate::causes::{Cause, Ending};
 use crate::messages::say;
-use crate::models::{Operation, read_operation};
-use crate::outputs::output;
-use crate::requests::message;
-use crate::searching::model_file;
+use crate::planning::plan;
 use crate::sinks::write_all;
 use aws_world::{Clock, Dice, Env, Files, Link, Sink};
-use http_exchange::{Outcome, exchange, wire};
-use json_doc::{Bytes, List, ReadFault, Text, read};
+use json_doc::{List, Text};
 use std::alloc::Global;
 
 /// Does all that the program does. `words` are those after the program's name. Output goes to
@@ -30,6 +28,15 @@ pub fn run<F: Files, L: Link, C: Clock, D: Dice, O: Sink, E: Sink>(
 ) -> Ending
     requires none_live { L.live link.old ≡ false }
     ensures none_live { L.live link.new ≡ false }
+
+    // What was sent, why it ended and what was printed are those of one course of the line.
+    ensures course { (course : Course) × IsCourse words.now env.now.pairs (F.holds files.old) course
+        × EndsIn course result.cause
+        × Tells (L.told link.old) (L.told link.new) (Connects course)
+        × Tells (O.taken out.old) (O.taken out.new) (Prints course result.cause) }
+    ensures says { Tells (E.taken err.old) (E.taken err.new)
+        (Says (Rose (E.faults err.old) (E.faults err.new)) (message_bytes words.now result.cause)) }
+
     ensures status { result.status ≡ status_of result.cause }
     ensures no_walk { result.next ≡ None }
     ensures no_items { result.items ≡ 0 }
@@ -49,14 +56,6 @@ pub fn run<F: Files, L: Link, C: Clock, D: Dice, O: Sink, E: Sink>(
     }
 }
 
-/// What a line asks for, and the bytes of its request.
-#[derive(Debug, Drop)]
-struct Planned {
-    asked: Asked,
-    operation: Operation,
-    request: Bytes,
-}
-
 fn work<F: Files, L: Link, O: Sink>(
     alloc: Global,
     words: &[Text],
@@ -67,6 +66,10 @@ fn work<F: Files, L: Link, O: Sink>(
 ) -> Cause
     requires none_live { L.live link.old ≡ false }
     ensures none_live { L.live link.new ≡ false }
+    ensures course { (course : Course) × IsCourse words.now env.now.pairs (F.holds files.old) course
+        × EndsIn course result
+        × Tells (L.told link.old) (L.told link.new) (Connects course)
+        × Tells (O.taken out.old) (O.taken out.new) (Prints course result) }
     ensures file_fault { IsFileFault result → Rose (F.faults files.old) (F.faults files.new) }
     ensures lost { IsLost result → Rose (L.faults link.old) (L.faults link.new) }
     ensures out_fault { IsOutFault result → Rose (O.faults out.old) (O.faults out.new) }
@@ -82,48 +85,6 @@ fn work<F: Files, L: Link, O: Sink>(
     match write_all(out, text.as_str().as_bytes()) {
         Ok(()) => Cause::Done,
         Err(_) => Cause::OutFault,
-    }
-}
-
-/// All that comes before the exchange.
-fn plan<F: Files>(
-    alloc: Global,
-    words: &[Text],
-    env: &Env,
-    files: &mut F,
-) -> Result<Planned, Unread>
-    ensures { HasFileCause (F.faults files.old) (F.faults files.new) result }
-{
-    let asked = read_words(alloc, words)?;
-    let file = model_file(alloc, env, files, &asked.service)?;
-    let operation = operation_in(alloc, file.as_slice(), &asked.operation)?;
-    let request = wire(alloc, &message(alloc, &asked, &operation)?)?;
-    Ok(Planned {
-        asked,
-        operation,
-        request,
-    })
-}
-
-fn operation_in(alloc: Global, file: &[u8], name: &Text) -> Result<Operation, Unbuilt> {
-    match read(alloc, file) {
-        Ok(model) => read_operation(alloc, &model, name),
-        Err(ReadFault::OutOfMemory) => Err(Unbuilt::OutOfMemory),
-        Err(_) => Err(Unbuilt::NotBuilt),
-    }
-}
-
-/// The exchange, and the text that is due for its reply.
-fn answer<L: Link>(alloc: Global, planned: &Planned, link: &mut L) -> Result<Text, Unanswered>
-    requires none_live { L.live link.old ≡ false }
-    ensures none_live { L.live link.new ≡ false }
-    ensures cause { HasLinkCause (L.faults link.old) (L.faults link.new) result }
-{
-    match exchange(alloc, link, &planned.asked.target, &planned.request, false) {
-        Outcome::Whole(reply) => Ok(output(alloc, &planned.operation, &reply)?),
-        Outcome::Lost(fault) => Err(Unanswered::Lost(fault)),
-        Outcome::OutOfMemory => Err(Unanswered::OutOfMemory),
-        Outcome::Cut | Outcome::Malformed | Outcome::TooLarge => Err(Unanswered::NotBuilt),
     }
 }
 

@@ -1,9 +1,9 @@
-ghost use Rattle.std.specs.Prelude.{◌≡◌, ◌≤◌, ℕ, List, Some, length, IfOk, IfSome, IsErrOf, bytes_eq};
+ghost use Rattle.std.specs.Prelude.{◌≡◌, ◌≤◌, ℕ, List, Some, length, IfOk, IfErr, IfSome, IsErrOf, bytes_eq};
 ghost use Rattle.std.specs.List.{list_any};
 ghost use Rattle.std.specs.Str.{chars};
 ghost use Rattle.aws_world.specs.FileTree.{file_at, HasBelow, IsListing, IsLonger};
-ghost use Rattle.aws_main.specs.Causes.{HasFileCause};
-ghost use Rattle.aws_main.specs.Folder.{below, model_path, model_at, last_some, has_colon, root_of, IsNoneOrLonger, IsServiceFolder, IsModelFile};
+ghost use Rattle.aws_main.specs.Causes.{HasFileCause, FaultsAt};
+ghost use Rattle.aws_main.specs.Folder.{below, model_path, model_at, last_some, has_colon, root_of, IsNoneOrLonger, IsServiceFolder, IsModelFile, IsPathInRoot, IsVersionPath, IsLookedAt};
 ghost use Rattle.std.specs.Option.{option_copied};
 
 use crate::causes::Unread;
@@ -26,6 +26,9 @@ pub fn model_file<F: Files>(
         (λ held. IfOk result (IsModelFile env.now.pairs held service.now)) }
     ensures refused { IfSome (F.holds files.old) (λ held. IsErrOf result Unread.NotBuilt
         → (bytes : List ℕ) → IsModelFile env.now.pairs held service.now bytes → ⊥) }
+    ensures only { IfSome (F.holds files.old) (λ held. IfOk result (λ made.
+        (bytes : List ℕ) → IsModelFile env.now.pairs held service.now bytes → made ≡ bytes)) }
+    ensures path { IfErr result (FaultsAt (IsLookedAt env.now.pairs service.now)) }
     ensures cause { HasFileCause (F.faults files.old) (F.faults files.new) result }
 {
     let folder = match service_folder(alloc, env, files, service) {
@@ -51,6 +54,8 @@ fn service_folder<F: Files>(
         (λ held. IfOk result (IsServiceFolder env.now.pairs held service.now)) }
     ensures refused { IfSome (F.holds files.old) (λ held. IsErrOf result Unread.NotBuilt
         → (folder : List ℕ) → IsServiceFolder env.now.pairs held service.now folder → ⊥) }
+    ensures path { IfOk result (IsPathInRoot env.now.pairs service.now) }
+    ensures fault { IfErr result (FaultsAt (λ path. root_of env.now.pairs ≡ Some path)) }
     ensures cause { HasFileCause (F.faults files.old) (F.faults files.new) result }
 {
     let Some(root) = root_folder(env) else {
@@ -105,6 +110,7 @@ fn newest<F: Files>(
     ensures small { IfOk result (λ bytes. length bytes ≤ 33554432) }
     ensures refused { IfSome (F.holds files.old) (λ held. IsErrOf result Unread.NotBuilt
         → IsNoneOrLonger 33554432 (last_some (model_at folder.now held) versions.now)) }
+    ensures fault { IfErr result (FaultsAt (IsVersionPath folder.now)) }
     ensures cause { HasFileCause (F.faults files.old) (F.faults files.new) result }
 {
     let mut left = versions;
@@ -125,6 +131,7 @@ fn list<F: Files>(alloc: Global, files: &mut F, folder: &Text) -> Result<List<Te
     ensures names { IfSome (F.holds files.old) (λ held. IfOk result (IsListing folder.now held)) }
     ensures refused { IfSome (F.holds files.old)
         (λ held. IsErrOf result Unread.NotBuilt → HasBelow folder.now held → ⊥) }
+    ensures fault { IfErr result (FaultsAt (λ path. path ≡ folder.now)) }
     ensures cause { HasFileCause (F.faults files.old) (F.faults files.new) result }
 {
     match files.list(alloc, folder) {
@@ -143,6 +150,7 @@ fn read<F: Files>(alloc: Global, files: &mut F, path: &Text) -> Result<Option<By
     ensures small { IfOk result (λ found. IfSome found (λ bytes. length bytes ≤ 33554432)) }
     ensures refused { IfSome (F.holds files.old)
         (λ held. IsErrOf result Unread.NotBuilt → IsLonger 33554432 (file_at path.now held)) }
+    ensures fault { IfErr result (FaultsAt (λ read. read ≡ path.now)) }
     ensures cause { HasFileCause (F.faults files.old) (F.faults files.new) result }
 {
     match files.read(alloc, path, MOST_MODEL_BYTES) {

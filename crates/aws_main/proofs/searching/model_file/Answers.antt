@@ -1,8 +1,10 @@
-use Rattle.std.proofs.Common.{◌≡◌, ◌≤◌, Some, Err, length, sym, ap, ◌∙◌, subst}
+use Rattle.std.proofs.Common.{◌≡◌, ◌≤◌, ℕ, List, Some, Err, length, sym, ap, ◌∙◌, subst}
 use Rattle.std.specs.Prelude.{IfOk}
 use Rattle.aws_world.specs.FileTree.{IsListing}
 use Rattle.aws_main.specs.Folder.{last_some, model_at, IsModelFile, IsServiceFolder}
-use Rattle.aws_main.proofs.Newest.{both_told, all_told, reason_same, none_below, none_newest, model_of}
+use Rattle.aws_main.proofs.Newest.{both_told, all_told, reason_same, none_below, none_newest, one_model, model_of}
+use Rattle.aws_main.proofs.LinePlans.{other_path}
+use Rattle.aws_main.specs.Folder.IsLookedAt.{at_version}
 use Rattle.aws_main.proofs.Service.{told}
 use Rattle.aws_main.proofs.searching.model_file.Goals as goal
 
@@ -32,3 +34,15 @@ returns-clause-refused g c =
     (λ held. IsServiceFolder c.args.env.now.pairs held c.args.service.now c.in-Ok.folder × IsListing c.in-Ok.folder held c.in-Ok-list.versions) _ _ c.in-Ok.ensures.kept c.in-Ok.ensures.found c.in-Ok-list.ensures.names (λ held place listing. (place, listing)))
     c.newest.ensures.refused
     (λ held both none refused. none_newest c.args.env.now.pairs held c.args.service.now c.in-Ok.folder c.as_slice.result.now both.0 (subst (IsListing c.in-Ok.folder held) (sym c.as_slice.ensures) both.1) (none refused))
+
+pub returns-clause-only : goal.returns-clause-only
+returns-clause-only g c =
+    all_told _ _ (λ held bytes. last_some (model_at c.in-Ok.folder held) c.as_slice.result.now ≡ Some bytes)
+    (λ held made. (bytes : List ℕ) → IsModelFile c.args.env.now.pairs held c.args.service.now bytes → made ≡ bytes)
+    c.newest.result _ _ _ c.in-Ok.ensures.kept (c.in-Ok-list.ensures.kept ∙ c.in-Ok.ensures.kept)
+    c.in-Ok.ensures.found c.in-Ok-list.ensures.names c.newest.ensures.found
+    (λ held bytes is place listing found.
+    one_model c.args.env.now.pairs held c.args.service.now c.in-Ok.folder c.as_slice.result.now bytes place (subst (IsListing c.in-Ok.folder held) (sym c.as_slice.ensures) listing) found)
+
+pub returns-clause-path : goal.returns-clause-path
+returns-clause-path g c = other_path _ _ c.newest.result c.newest.ensures.fault (λ path version. at_version c.in-Ok.folder c.in-Ok.ensures.path version)
