@@ -10,6 +10,9 @@ use http_reply::{Outcome, ReplyReader};
 use json_doc::Bytes;
 use std::alloc::Global;
 
+#[cfg(test)]
+mod tests;
+
 /// Sends a request on a new connection, receives the reply and closes the connection.
 /// `head_only` tells that the request's method is HEAD, whose replies have no body.
 pub fn exchange<L: Link>(

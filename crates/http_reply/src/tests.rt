@@ -141,65 +141,6 @@ fn replies_in_pieces(rt: HostRuntime) -> Result<(), Fail> {
     Ok(())
 }
 
-const HEAD: &[u8] = b"HTTP/1.1 200 OK\r\n";
-
-/// Replies with a part that is repeated so many times, and what comes of each.
-const LONG_REPLIES: [(&[u8], &[u8], usize, &[u8], &str); 8] = [
-    (b"HTTP/1.1 200 OK\r\nA: ", b"x", 65_512, b"\r\n\r\n", "200 "),
-    (
-        b"HTTP/1.1 200 OK\r\nA: ",
-        b"x",
-        65_513,
-        b"\r\n\r\n",
-        "TooLarge",
-    ),
-    (HEAD, b"A: b\r\n", 100, b"\r\n", "200 "),
-    (HEAD, b"A: b\r\n", 101, b"\r\n", "TooLarge"),
-    (
-        b"",
-        b"HTTP/1.1 100 Continue\r\n\r\n",
-        100,
-        b"HTTP/1.1 204 No\r\n\r\n",
-        "204 ",
-    ),
-    (
-        b"HTTP/1.1 200 OK\r\nTransfer-Encoding: chunked\r\n\r\n1;",
-        b"e",
-        4_092,
-        b"\r\nx\r\n0\r\n\r\n",
-        "200 x",
-    ),
-    (
-        b"HTTP/1.1 200 OK\r\nTransfer-Encoding: chunked\r\n\r\n1;",
-        b"e",
-        4_093,
-        b"\r\nx\r\n0\r\n\r\n",
-        "TooLarge",
-    ),
-    (
-        b"HTTP/1.1 200 OK\r\nTransfer-Encoding: chunked\r\n\r\n0\r\nT: ",
-        b"t",
-        65_500,
-        b"\r\n\r\n",
-        "TooLarge",
-    ),
-];
-
-#[test]
-fn long_replies(rt: HostRuntime) -> Result<(), Fail> {
-    for (front, part, times, back, want) in LONG_REPLIES {
-        let mut bytes = Vec::from_slice(rt.alloc(), front)?;
-        for _ in 0..times {
-            bytes.extend_from_slice(part)?;
-        }
-        bytes.extend_from_slice(back)?;
-        let outcome = outcome(rt.alloc(), &bytes, 1, false, None);
-        let shown = shown(rt.alloc(), &outcome)?;
-        assert_eq!(rt; shown.as_str(), want, "{times} times");
-    }
-    Ok(())
-}
-
 #[test]
 fn method_fault_and_headers(rt: HostRuntime) -> Result<(), Fail> {
     let bytes = b"HTTP/1.1 200 OK\r\nContent-Length: 9\r\nName:  first \r\nnAmE: second\r\n\r\n";
