@@ -1,5 +1,5 @@
 -- What was received on the last connection, and what it makes of the reply.
-use Rattle.std.proofs.Common.{◌≡◌, ℕ, ◌+◌, ◌-◌, ◌<◌, ◌≤◌, Bool, true, false, List, ◌++◌, length, Option, None, Some, sym, ap, ◌∙◌, subst, arith, length-append}
+use Rattle.std.proofs.Common.{◌≡◌, ℕ, ◌+◌, ◌-◌, ◌<◌, ◌≤◌, Bool, true, false, List, ◌++◌, length, Option, None, Some, refl, sym, ap, ◌∙◌, subst, arith, length-append}
 use Rattle.aws_world.specs.declared.link.LinkFault.{LinkFault}
 use Rattle.aws_world.specs.Told.{Tells}
 use Rattle.aws_world.specs.Connection.{Connection, on_last, more_received, peer_ended, faulted}
@@ -13,25 +13,25 @@ use Rattle.http_exchange.specs.Exchange.{Receives, IsLost, decided, ended, faile
 -- the bytes decided
 pub receipt_decided : (head_only : Bool) (received : List ℕ) (outcome : Outcome) (first last : Option (List Connection))
     → Tells first last (λ before after. after ≡ on_last (more_received received) before) → IsOutcome head_only received false None outcome
-    → Tells first last (Receives head_only outcome)
-receipt_decided head_only received outcome first last told is =
-    tells_weaker (λ x z. z ≡ on_last (more_received received) x) (Receives head_only outcome) first last told (λ x z e. (received, decided, e, is))
+    → 0 < length received → Tells first last (Receives head_only outcome)
+receipt_decided head_only received outcome first last told is some =
+    tells_weaker (λ x z. z ≡ on_last (more_received received) x) (Receives head_only outcome) first last told (λ x z e. (received, decided, e, is, λ o. (some, refl)))
 
 -- the peer ended
 pub receipt_ended : (head_only : Bool) (received : List ℕ) (outcome : Outcome) (first mid last : Option (List Connection))
     → Tells first mid (λ before after. after ≡ on_last (more_received received) before) → Tells mid last (λ before after. after ≡ on_last peer_ended before)
-    → IsOutcome head_only received true None outcome → Tells first last (Receives head_only outcome)
-receipt_ended head_only received outcome first mid last told end is =
+    → IsOutcome head_only received true None outcome → ¬ (outcome ≡ OutOfMemory) → Tells first last (Receives head_only outcome)
+receipt_ended head_only received outcome first mid last told end is memory =
     tells_both (λ x y. y ≡ on_last (more_received received) x) (λ y z. z ≡ on_last peer_ended y) (Receives head_only outcome) first mid last told end
-    (λ x y z e f. (received, ended, f ∙ ap (on_last peer_ended) e, is))
+    (λ x y z e f. (received, ended, f ∙ ap (on_last peer_ended) e, is, λ o. absurd (memory o)))
 
 -- the link failed
 pub receipt_failed : (head_only : Bool) (received : List ℕ) (fault : LinkFault) (outcome : Outcome) (first mid last : Option (List Connection))
     → Tells first mid (λ before after. after ≡ on_last (more_received received) before) → Tells mid last (λ before after. after ≡ on_last (faulted fault) before)
-    → IsOutcome head_only received false (Some fault) outcome → Tells first last (Receives head_only outcome)
-receipt_failed head_only received fault outcome first mid last told end is =
+    → IsOutcome head_only received false (Some fault) outcome → ¬ (outcome ≡ OutOfMemory) → Tells first last (Receives head_only outcome)
+receipt_failed head_only received fault outcome first mid last told end is memory =
     tells_both (λ x y. y ≡ on_last (more_received received) x) (λ y z. z ≡ on_last (faulted fault) y) (Receives head_only outcome) first mid last told end
-    (λ x y z e f. (received, failed fault, f ∙ ap (on_last (faulted fault)) e, is))
+    (λ x y z e f. (received, failed fault, f ∙ ap (on_last (faulted fault)) e, is, λ o. absurd (memory o)))
 
 -- without a fault no exchange is lost
 pub not_lost : (head_only : Bool) (received : List ℕ) (end : Bool) (outcome : Outcome) → IsOutcome head_only received end None outcome → IsLost outcome → ⊥

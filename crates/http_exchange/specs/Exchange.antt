@@ -41,11 +41,15 @@ stopped decided connections = connections
 stopped ended connections = on_last peer_ended connections
 stopped (failed fault) connections = on_last (faulted fault) connections
 
+-- memory ran out only where bytes came and the peer neither ended nor failed
+abbrev pub RunsOut : Outcome → List ℕ → Stop → Type 0
+RunsOut outcome received stop = outcome ≡ OutOfMemory → (0 < length received) × (stop ≡ decided)
+
 -- bytes came on the last connection and then it stopped, and the outcome is that of the bytes
 abbrev pub Receives : Bool → Outcome → List Connection → List Connection → Type 0
 Receives head_only outcome before after =
     (received : List ℕ) × (stop : Stop) × (after ≡ stopped stop (on_last (more_received received) before))
-    × IsOutcome head_only received (has_ended stop) (fault_in stop) outcome
+    × IsOutcome head_only received (has_ended stop) (fault_in stop) outcome × RunsOut outcome received stop
 
 -- all of the request was sent; or the exchange was lost before, after a proper front of it, and
 -- nothing was received
@@ -53,12 +57,17 @@ abbrev pub HasSent : List ℕ → Outcome → Connection → Type 0
 HasSent request outcome c =
     (c.sent ≡ request) ⊎ ((n : ℕ) × (n < length request) × (c.sent ≡ take n request) × IsLost outcome × (c.received ≡ []) × (c.ended ≡ false))
 
+-- memory ran out only where the connection gave bytes and neither ended nor failed
+abbrev pub HasRunOut : Outcome → Connection → Type 0
+HasRunOut outcome c = outcome ≡ OutOfMemory → (0 < length c.received) × (c.ended ≡ false) × (c.fault ≡ None)
+
 -- the connection of one exchange: its target, what it sent, and the outcome of what it received
 pub record IsExchange (target : Target) (request : List ℕ) (head_only : Bool) (outcome : Outcome) (c : Connection) : Type 0 where
   pub host : c.host ≡ target.host
   pub port : c.port ≡ target.port
   pub sent : HasSent request outcome c
   pub outcome_is : IsOutcome head_only c.received c.ended c.fault outcome
+  pub memory : HasRunOut outcome c
 
 -- one connection more, which is that exchange
 abbrev pub AddsExchange : Target → List ℕ → Bool → Outcome → List Connection → List Connection → Type 0

@@ -195,11 +195,13 @@ impl ReplyReader {
         }
     }
 
-    /// The outcome where no more bytes come: the peer ended, or the connection had a fault.
+    /// The outcome where no more bytes come: the peer ended, or the connection had a fault. It takes
+    /// no memory.
     pub fn finish(self, fault: Option<LinkFault>) -> Outcome
         requires { IsReading self }
         ensures outcome { (head_only : Bool) (received : List ℕ) → WaitsAfter head_only received self
             → IsOutcome head_only received (is_none fault) fault result }
+        ensures memory { ¬ (result ≡ Outcome.OutOfMemory) }
         ensures small { IsSmall result }
     {
         if let Some(kind) = fault {
