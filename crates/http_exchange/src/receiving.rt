@@ -8,6 +8,9 @@ use aws_world::Link;
 use http_reply::{Outcome, ReplyReader};
 use std::alloc::Global;
 
+/// The most bytes of one piece.
+pub const ROOM: usize = 16_384;
+
 /// Receives on the live connection until the bytes decide the outcome, the peer ends or the link
 /// fails. The reader has taken in no bytes yet.
 pub fn receive_reply<L: Link>(
@@ -24,7 +27,7 @@ pub fn receive_reply<L: Link>(
     ensures lost { IsLost result → Rose (L.faults link.old) (L.faults link.new) }
     ensures small { IsSmall result }
 {
-    let mut room = [0u8; 16384];
+    let mut room = [0u8; ROOM];
     loop {
         match link.receive(&mut room) {
             Ok(0) => return reader.finish(None),

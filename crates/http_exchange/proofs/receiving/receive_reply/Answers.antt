@@ -1,8 +1,8 @@
-use Rattle.std.proofs.Common.{◌≡◌, ◌<◌, ◌≤◌, ◌++◌, [], ap, ◌∙◌, arith, refl, length-append}
+use Rattle.std.proofs.Common.{◌<◌, ◌++◌, [], ◌∙◌, arith, refl, length-append}
 use Rattle.aws_world.proofs.Causes.{rose_after}
 use Rattle.aws_world.proofs.Pieces.{tells_received_none}
 use Rattle.http_reply.specs.declared.limits.TheConstants.{TOTAL_LIMIT}
-use Rattle.http_exchange.proofs.Receipts.{receipt_decided, receipt_ended, receipt_failed, not_lost, piece_nearer, piece_received}
+use Rattle.http_exchange.proofs.Receipts.{receipt_decided, receipt_ended, receipt_failed, not_lost, piece_nearer, piece_received, waited_before}
 use Rattle.http_exchange.proofs.receiving.receive_reply.Goals as goal
 
 pub loop-reader-init : goal.loop-reader-init
@@ -20,7 +20,7 @@ pub returns-in-Ok-eq0-clause-told : goal.returns-in-Ok-eq0-clause-told
 returns-in-Ok-eq0-clause-told g c =
     let so_far = c.loop-reader.invariant.going in
     receipt_ended c.args.head_only so_far.0 _ _ _ _ so_far.2 (c.in-Ok-eq0.ensures.ended c.in-Ok-eq0.field-0-test)
-    (c.finish.ensures.outcome c.args.head_only so_far.0 so_far.1) c.finish.ensures.memory
+    (c.finish.ensures.outcome c.args.head_only so_far.0 so_far.1) c.finish.ensures.memory (_, _, so_far.1.waiting)
 
 pub returns-in-Ok-eq0-clause-later : goal.returns-in-Ok-eq0-clause-later
 returns-in-Ok-eq0-clause-later g c = omega (arith, c.loop-reader.invariant.later, c.receive.ensures.cause.later)
@@ -41,6 +41,8 @@ returns-in-Some-clause-told g c =
     (piece_received so_far.0 c.split_at.result.0.now _ _ _ _ c.split_at.ensures.front so_far.2 (c.in-Ok.ensures.received some))
     (c.in-Some.ensures.gives c.args.head_only so_far.0 so_far.1)
     (omega (arith, length-append so_far.0 c.split_at.result.0.now, c.split_at.ensures.front_len, some))
+    (waited_before c.args.head_only so_far.0 c.split_at.result.0.now c.in-Ok.count (_, _, so_far.1.waiting) c.split_at.ensures.front_len
+    (omega (arith, c.in-Ok.ensures.within, c.receive.auto.room, c.loop-reader.invariant.size)))
 
 pub returns-in-Some-clause-later : goal.returns-in-Some-clause-later
 returns-in-Some-clause-later g c = omega (arith, c.loop-reader.invariant.later, c.receive.ensures.cause.later)
@@ -79,7 +81,7 @@ pub returns-in-Err-clause-told : goal.returns-in-Err-clause-told
 returns-in-Err-clause-told g c =
     let so_far = c.loop-reader.invariant.going in
     receipt_failed c.args.head_only so_far.0 c.in-Err.fault _ _ _ _ so_far.2 c.in-Err.ensures.failed
-    (c.finish-in-Err.ensures.outcome c.args.head_only so_far.0 so_far.1) c.finish-in-Err.ensures.memory
+    (c.finish-in-Err.ensures.outcome c.args.head_only so_far.0 so_far.1) c.finish-in-Err.ensures.memory (_, _, so_far.1.waiting)
 
 pub returns-in-Err-clause-later : goal.returns-in-Err-clause-later
 returns-in-Err-clause-later g c = omega (arith, c.loop-reader.invariant.later, c.receive.ensures.cause.later)

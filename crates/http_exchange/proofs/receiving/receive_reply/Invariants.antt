@@ -1,7 +1,6 @@
 use Rattle.std.proofs.Common.{◌≡◌, ◌≤◌, ◌+◌, ◌-◌, ℕ, List, true, length}
 use Rattle.aws_world.specs.Told.{Tells}
 use Rattle.aws_world.specs.Connection.{on_last, more_received}
-use Rattle.http_reply.specs.declared.reader.ReplyReader.{ReplyReader}
 use Rattle.http_reply.specs.declared.limits.TheConstants.{TOTAL_LIMIT}
 use Rattle.http_reply.specs.Waiting.{WaitsAfter}
 use Rattle.http_exchange.proofs.receiving.receive_reply.Given as goal

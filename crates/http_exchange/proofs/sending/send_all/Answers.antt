@@ -1,4 +1,4 @@
-use Rattle.std.proofs.Common.{◌≤◌, arith}
+use Rattle.std.proofs.Common.{arith}
 use Rattle.aws_world.proofs.Pieces.{tells_sent_none, tells_sent_more}
 use Rattle.http_exchange.proofs.sending.send_all.Goals as goal
 
