@@ -18,9 +18,12 @@ pub mod NumberLeft
 pub mod NumberLocal
 pub mod NumberScans
 pub mod NumbersAgain
+pub mod NumbersWritten
 pub mod Once
 pub mod Places
 pub mod Plain
+pub mod ProperDocuments
+pub mod ReadAgain
 pub mod Refusals
 pub mod Shorter
 pub mod Signed
@@ -31,6 +34,7 @@ pub mod TextLocal
 pub mod TextScans
 pub mod TextSteps
 pub mod Texts
+pub mod TextsWritten
 pub mod TokenParts
 pub mod Utf8Bytes
 pub mod Utf8Parts

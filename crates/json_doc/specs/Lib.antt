@@ -2,6 +2,7 @@ pub mod Ascii
 pub mod Compact
 pub mod DecimalText
 pub mod DecimalValue
+pub mod Documents
 pub mod Escapes
 pub mod Exact
 pub mod Faults

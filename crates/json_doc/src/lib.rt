@@ -39,6 +39,6 @@ pub use list::List;
 pub use memory::OutOfMemory;
 pub use pairs::{Pair, Pairs};
 pub use read_fault::ReadFault;
-pub use read_laws::{reading_is_grammar, reading_is_unique};
+pub use read_laws::{compact_reads_back, reading_is_grammar, reading_is_unique};
 pub use reader::read;
 pub use text::Text;

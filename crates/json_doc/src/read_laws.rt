@@ -1,7 +1,9 @@
 //! What is true of every text, whichever is read.
-ghost use Rattle.std.specs.Prelude.{◌≡◌, ◌↔◌, ℕ, List, Ok};
+ghost use Rattle.std.specs.Prelude.{◌≡◌, ◌≤◌, ◌↔◌, ℕ, List, Ok, encode_utf8_all};
+ghost use Rattle.json_doc.specs.Compact.{compact_of};
 ghost use Rattle.json_doc.specs.declared.doc.Doc.{Doc};
 ghost use Rattle.json_doc.specs.declared.read_fault.ReadFault.{ReadFault};
+ghost use Rattle.json_doc.specs.Documents.{depth_of, IsProper};
 ghost use Rattle.json_doc.specs.Faults.{HasFault};
 ghost use Rattle.json_doc.specs.Grammar.{Reads};
 ghost use Rattle.json_doc.specs.Scan.{Scans};
@@ -17,4 +19,9 @@ pub fn reading_is_unique()
     ensures document { (bytes : List ℕ) (d e : Doc) → Reads bytes d → Reads bytes e → d ≡ e }
     ensures no_fault { (bytes : List ℕ) (d : Doc) (f : ReadFault) → Reads bytes d → HasFault bytes f → ⊥ }
     ensures fault { (bytes : List ℕ) (f g : ReadFault) → HasFault bytes f → HasFault bytes g → f ≡ g }
+{}
+
+/// The compact text of a document is in the grammar as that document, if it nests at most 100 deep.
+pub fn compact_reads_back()
+    ensures { (d : Doc) → IsProper d → depth_of d ≤ 100 → Reads (encode_utf8_all (compact_of d)) d }
 {}
