@@ -1,12 +1,18 @@
 -- What holds of a document as a tree holds of its items and of its fields.
-use Rattle.std.proofs.Common.{◌≡◌, ℕ, ◌+◌, List, [], ◌∷◌, map, refl, sym, ap, ◌∙◌, subst, rules}
+use Rattle.std.proofs.Common.{◌≡◌, ℕ, ◌+◌, Bool, true, List, [], ◌∷◌, map, Result, Ok, Err, refl, sym, ap, ◌∙◌, subst, rules}
+use Rattle.std.specs.Prelude.{IfOk}
 use Rattle.std.specs.List.{AllByRecursion}
-use Rattle.json_doc.specs.declared.doc.Doc.{Doc, the_lemmas, map-Doc, out-Doc}
-use Rattle.json_doc.specs.declared.doc.Doc.TheVariants.{Str, Items, Fields, rolls-Items, rolls-Fields}
+use Rattle.std.specs.Str.{chars, IsUtf8}
+use Rattle.std.proofs.Math.Utf8.{scalars}
+use Rattle.std.proofs.lemmas.Bool.{and_parts}
+use Rattle.std.proofs.lemmas.Str.{scalars-chars}
+use Rattle.json_doc.specs.declared.doc.Doc.{Doc, the_lemmas, map-Doc, out-Doc, roll-Doc}
+use Rattle.json_doc.specs.declared.doc.Doc.TheVariants.{Null, Flag, Number, Str, Items, Fields, rolls-Null, rolls-Flag, rolls-Number, rolls-Str, rolls-Items, rolls-Fields}
 use Rattle.json_doc.specs.declared.doc.Doc.TheOpen.{Doc-F}
-use Rattle.json_doc.specs.declared.doc.Doc.TheFolds.{fold-roll-Doc, every_here-Doc, every_held-Doc}
+use Rattle.json_doc.specs.declared.doc.Doc.TheFolds.{fold-roll-Doc, every_here-Doc, every_held-Doc, every_made-Doc}
+use Rattle.json_doc.specs.declared.decimal.Decimal.{Decimal}
 use Rattle.json_doc.specs.declared.pairs.Pair.{Pair}
-use Rattle.json_doc.specs.Documents.{greatest, depth_of, depth_step, IsText, IsProper, IsProperValue}
+use Rattle.json_doc.specs.Documents.{greatest, depth_of, depth_step, IsText, IsProper, IsProperValue, IsProperField}
 use Rattle.json_doc.specs.Keys.{keys, IsDistinct}
 
 out-Str : (t : List ℕ) → out-Doc (Str t) ≡ Doc-F.Str t
@@ -76,6 +82,59 @@ fields-IsProper ps proper =
 pub keys-IsProper : (ps : List (Pair Doc)) → IsProper (Fields ps) → AllByRecursion IsText (keys ps) × IsDistinct (keys ps)
 keys-IsProper ps proper = subst IsProperValue (out-Fields ps) (every_here-Doc IsProperValue (Fields ps) proper)
 
+-- What holds of the parts makes the whole.
+
+-- the characters of bytes in UTF-8 are a text
+pub text_from : (t bs : List ℕ) → IsUtf8 bs → chars bs ≡ t → IsText t
+text_from t bs utf8 same = subst IsText same (texts (chars bs) (scalars-chars bs utf8))
+  where
+    texts : (cs : List ℕ) → scalars cs ≡ true → IsText cs
+    texts [] all = tt
+    texts (c ∷ cs) all = let both = and_parts _ _ all in (both.0, texts cs both.1)
+
+made : (x : Doc-F Doc) (y : Doc-F Known) (d : Doc) → map-Doc Known Doc (λ e. e.0) y ≡ x → roll-Doc x ≡ d → IsProperValue x → IsProper d
+made x y d same rolls value = subst IsProper rolls (every_made-Doc IsProperValue x y same value)
+
+pub IsProper-Null : IsProper Null
+IsProper-Null = made Doc-F.Null Doc-F.Null Null refl rolls-Null tt
+
+pub IsProper-Flag : (flag : Bool) → IsProper (Flag flag)
+IsProper-Flag flag = made (Doc-F.Flag flag) (Doc-F.Flag flag) (Flag flag) refl (rolls-Flag flag) tt
+
+pub IsProper-Number : (n : Decimal) → IsProper (Number n)
+IsProper-Number n = made (Doc-F.Number n) (Doc-F.Number n) (Number n) refl (rolls-Number n) tt
+
+pub IsProper-Str : (t : List ℕ) → IsText t → IsProper (Str t)
+IsProper-Str t text = made (Doc-F.Str t) (Doc-F.Str t) (Str t) refl (rolls-Str t) text
+
+pub IsProper-Items : (ds : List Doc) → AllByRecursion IsProper ds → IsProper (Items ds)
+IsProper-Items ds all = made (Doc-F.Items ds) (Doc-F.Items (known ds all)) (Items ds) (ap Doc-F.Items (same ds all)) (rolls-Items ds) tt
+  where
+    known : (ds : List Doc) → AllByRecursion IsProper ds → List Known
+    known [] all = []
+    known (d ∷ ds) all = (d, all.0) ∷ known ds all.1
+
+    same : (ds : List Doc) (all : AllByRecursion IsProper ds) → map (λ e. e.0) (known ds all) ≡ ds
+    same [] all = refl
+    same (d ∷ ds) all = ap (λ es. d ∷ es) (same ds all.1)
+
+pub IsProper-Fields : (ps : List (Pair Doc)) → AllByRecursion IsProperField ps → IsDistinct (keys ps) → IsProper (Fields ps)
+IsProper-Fields ps all distinct = made (Doc-F.Fields ps) (Doc-F.Fields (known ps all)) (Fields ps) (ap Doc-F.Fields (same ps all)) (rolls-Fields ps) (texts ps all, distinct)
+  where
+    known : (ps : List (Pair Doc)) → AllByRecursion IsProperField ps → List (Pair Known)
+    known [] all = []
+    known (p ∷ ps) all = record { key = p.key; value = (p.value, all.0.1) } ∷ known ps all.1
+
+    same : (ps : List (Pair Doc)) (all : AllByRecursion IsProperField ps) → map (λ e. record { key = e.key; value = e.value.0 }) (known ps all) ≡ ps
+    same [] all = refl
+    same (p ∷ ps) all = ap (λ es. p ∷ es) (same ps all.1)
+
+    texts : (ps : List (Pair Doc)) → AllByRecursion IsProperField ps → AllByRecursion IsText (keys ps)
+    texts [] all = tt
+    texts (p ∷ ps) all = (all.0.0, texts ps all.1)
+
+-- Depths.
+
 pub depth-Items : (ds : List Doc) → depth_of (Items ds) ≡ greatest (map depth_of ds) + 1
 depth-Items ds = ap depth_of (sym (rolls-Items ds)) ∙ fold-roll-Doc ℕ depth_step (Doc-F.Items ds)
 
@@ -88,3 +147,8 @@ depth-Fields ps = ap depth_of (sym (rolls-Fields ps)) ∙ fold-roll-Doc ℕ dept
     values : (ps : List (Pair Doc)) → map (λ p. p.value) (map depth_at ps) ≡ map (λ p. depth_of p.value) ps
     values [] = refl
     values (p ∷ ps) = ap (λ ns. depth_of p.value ∷ ns) (values ps)
+
+-- what holds anyway holds after Ok
+pub if_ok : {A E : Type 0} (r : Result A E) (P : Type 0) → P → IfOk r (λ _. P)
+if_ok (Ok x) P holds = holds
+if_ok (Err e) P holds = tt

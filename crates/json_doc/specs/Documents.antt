@@ -5,6 +5,7 @@ use Rattle.std.specs.List.{AllByRecursion}
 use Rattle.json_doc.specs.declared.doc.Doc.{Doc}
 use Rattle.json_doc.specs.declared.doc.Doc.TheOpen.{Doc-F}
 use Rattle.json_doc.specs.declared.doc.Doc.TheFolds.{fold-Doc, every-Doc}
+use Rattle.json_doc.specs.declared.pairs.Pair.{Pair}
 use Rattle.json_doc.specs.Keys.{keys, IsDistinct}
 
 -- the greatest of these; of none, 0
@@ -35,3 +36,6 @@ IsProperValue others = Unit {0}
 -- so is each value in the document
 abbrev pub IsProper : Doc → Type 0
 IsProper = every-Doc IsProperValue
+
+abbrev pub IsProperField : Pair Doc → Type 0
+IsProperField p = IsText p.key × IsProper p.value

@@ -1,5 +1,7 @@
-ghost use Rattle.std.specs.Prelude.{◌≡◌, IfOk};
+ghost use Rattle.std.specs.Prelude.{◌≡◌, ◌≤◌, IfOk, encode_utf8_all};
 ghost use Rattle.json_doc.specs.Compact.{compact_of};
+ghost use Rattle.json_doc.specs.Documents.{depth_of};
+ghost use Rattle.json_doc.specs.Grammar.{Reads};
 ghost use Rattle.json_doc.specs.Indented.{indented_of};
 
 use crate::layout::Layout;
@@ -8,8 +10,10 @@ use crate::{Doc, OutOfMemory, Text};
 use std::alloc::Global;
 
 /// The text of a document on one line of printable ASCII, with one blank behind each `,` and `:`.
+/// `read` gives the document again, if it nests at most 100 deep.
 pub fn compact(alloc: Global, doc: &Doc) -> Result<Text, OutOfMemory>
-    ensures { IfOk result (λ text. text ≡ compact_of doc.now) }
+    ensures text { IfOk result (λ text. text ≡ compact_of doc.now) }
+    ensures reads { IfOk result (λ text. depth_of doc.now ≤ 100 → Reads (encode_utf8_all text) doc.now) }
 {
     let mut text = Text::new(alloc);
     write_doc(&mut text, doc, Layout::Compact, 0)?;

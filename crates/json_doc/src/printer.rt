@@ -1,5 +1,7 @@
 ghost use Rattle.std.specs.Prelude.{◌≡◌, ◌+◌, ◌++◌, map, OnOk, IfOk};
+ghost use Rattle.std.specs.List.{AllByRecursion};
 ghost use Rattle.json_doc.specs.Compact.{flag_text};
+ghost use Rattle.json_doc.specs.Documents.{IsText, IsProper, IsProperField};
 ghost use Rattle.json_doc.specs.Indented.{line};
 ghost use Rattle.json_doc.specs.Layouts.{text_at, before_part, after_parts, parts_text, key_text, field_text};
 
@@ -16,7 +18,8 @@ pub(crate) fn write_doc(
     layout: Layout,
     level: usize,
 ) -> Result<(), OutOfMemory>
-    ensures { OnOk result (out.new ≡ out.old ++ text_at layout level doc.now) }
+    ensures text { OnOk result (out.new ≡ out.old ++ text_at layout level doc.now) }
+    ensures proper { IfOk result (λ _. IsProper doc.now) }
 {
     match doc {
         Doc::Null => out.push_str("null"),
@@ -44,8 +47,9 @@ fn write_items(
     layout: Layout,
     level: usize,
 ) -> Result<(), OutOfMemory>
-    ensures { OnOk result
+    ensures text { OnOk result
         (out.new ≡ out.old ++ parts_text layout level (map (text_at layout (level + 1)) items.now)) }
+    ensures proper { IfOk result (λ _. AllByRecursion IsProper items.now) }
 {
     let inside = level_inside(level)?;
     let mut is_first = true;
@@ -65,8 +69,9 @@ fn write_fields(
     layout: Layout,
     level: usize,
 ) -> Result<(), OutOfMemory>
-    ensures { OnOk result
+    ensures text { OnOk result
         (out.new ≡ out.old ++ parts_text layout level (map (field_text layout (level + 1)) fields.now)) }
+    ensures proper { IfOk result (λ _. AllByRecursion IsProperField fields.now) }
 {
     let inside = level_inside(level)?;
     let mut is_first = true;
@@ -87,7 +92,8 @@ fn level_inside(level: usize) -> Result<usize, OutOfMemory>
 }
 
 fn write_key(out: &mut Text, key: &Text, layout: Layout) -> Result<(), OutOfMemory>
-    ensures { OnOk result (out.new ≡ out.old ++ key_text layout key.now) }
+    ensures text { OnOk result (out.new ≡ out.old ++ key_text layout key.now) }
+    ensures key { IsText key.now }
 {
     write_quoted(out, key.as_str(), layout)?;
     out.push_str(": ")
