@@ -62,10 +62,13 @@ first_digit n some small =
     (λ m ds l h. (omega (arith, length-append ds ((48 + m % 10) ∷ [])), λ a. omega (arith, get_or_append_left ds ((48 + m % 10) ∷ []) 0 0 h.0, h.1 (omega arith)))) n small).1 some
 
 decimal-IsInt : (n : ℕ) → n < 10 ^ 64 → IsInt (decimal n)
-decimal-IsInt n small = ((decimal_is_IsNumeral_wide n small).0, λ zero_first. elim (cases_lt 0 n) [
-  | inl some ↦ let more = first_digit n some small in absurd (omega (arith, zero_first))
-  | inr none ↦ let same : n ≡ 0 = omega arith in ap decimal same ∙ decimal_digit 0 (omega arith)
-])
+decimal-IsInt n small = (
+  (decimal_is_IsNumeral_wide n small).0,
+  λ zero_first. elim (cases_lt 0 n) [
+    | inl some ↦ let more = first_digit n some small in absurd (omega (arith, zero_first))
+    | inr none ↦ let same : n ≡ 0 = omega arith in ap decimal same ∙ decimal_digit 0 (omega arith)
+  ],
+)
 
 -- The places.
 

@@ -199,8 +199,8 @@ layer_again (Doc-F.Items es) =
 layer_again (Doc-F.Fields es) =
     let ps : List (Pair Doc) = map plain es in
     subst Again (sym (rolls-Fields ps)) (λ proper.
-      let keyed = keys-IsProper ps proper in
-      fields_again ps (all_members es (fields-IsProper ps proper) keyed.0) keyed.1)
+    let keyed = keys-IsProper ps proper in
+    fields_again ps (all_members es (fields-IsProper ps proper) keyed.0) keyed.1)
 
 again : (d : Doc) → Again d
 again = ind-Doc Again (λ x y is. subst (λ z. Again (roll-Doc z)) is (layer_again y))

@@ -36,32 +36,19 @@ mod tests {
     use crate::{Decimal, List, Pairs};
     use std::test::Fail;
 
-    // Expected values are those of Python's json.dumps.
+    // Expected values are those of Python's json.dumps. The reader's tests have compact texts.
     #[test]
-    fn escapes(rt: HostRuntime) -> Result<(), Fail> {
+    fn escapes_in_lines(rt: HostRuntime) -> Result<(), Fail> {
         let rows = [
-            ("a b~", "\"a b~\"", "\"a b~\""),
-            (
-                "\"\\\u{8}\t\n\u{c}\r",
-                "\"\\\"\\\\\\b\\t\\n\\f\\r\"",
-                "\"\\\"\\\\\\b\\t\\n\\f\\r\"",
-            ),
-            ("\u{0}\u{1f}", "\"\\u0000\\u001f\"", "\"\\u0000\\u001f\""),
-            (
-                "\u{7f}é\u{ffff}",
-                "\"\\u007f\\u00e9\\uffff\"",
-                "\"\u{7f}é\u{ffff}\"",
-            ),
-            (
-                "x\u{10000}\u{10ffff}y",
-                "\"x\\ud800\\udc00\\udbff\\udfffy\"",
-                "\"x\u{10000}\u{10ffff}y\"",
-            ),
+            ("a b~", "\"a b~\""),
+            ("\"\\\u{8}\t\n\u{c}\r", "\"\\\"\\\\\\b\\t\\n\\f\\r\""),
+            ("\u{0}\u{1f}", "\"\\u0000\\u001f\""),
+            ("\u{7f}é\u{ffff}", "\"\u{7f}é\u{ffff}\""),
+            ("x\u{10000}\u{10ffff}y", "\"x\u{10000}\u{10ffff}y\""),
         ];
-        for (text, on_one_line, with_lines) in rows {
+        for (text, want) in rows {
             let doc = Doc::Str(Text::from_str(rt.alloc(), text)?);
-            assert_eq!(rt; compact(rt.alloc(), &doc)?.as_str(), on_one_line);
-            assert_eq!(rt; indented(rt.alloc(), &doc)?.as_str(), with_lines);
+            assert_eq!(rt; indented(rt.alloc(), &doc)?.as_str(), want);
         }
         Ok(())
     }
@@ -69,70 +56,20 @@ mod tests {
     fn titles(alloc: Global) -> Result<Doc, OutOfMemory> {
         let mut titles = List::new(alloc);
         titles.push(Doc::Str(Text::from_str(alloc, "Dune")?))?;
-        titles.push(Doc::Str(Text::from_str(alloc, "Emma")?))?;
+        titles.push(Doc::Number(Decimal::of(1984)))?;
         let mut fields = Pairs::new(alloc);
         fields.push_new(Text::from_str(alloc, "Titles")?, Doc::Items(titles))?;
         Ok(Doc::Fields(fields))
     }
 
-    fn accents(alloc: Global) -> Result<Doc, OutOfMemory> {
-        let mut fields = Pairs::new(alloc);
-        let accent = Text::from_str(alloc, "é")?;
-        fields.push_new(Text::from_str(alloc, "a")?, Doc::Str(accent))?;
-        let second = Text::from_str(alloc, "b")?;
-        fields.push_new(second, Doc::Number(Decimal::of(2)))?;
-        Ok(Doc::Fields(fields))
-    }
-
     #[test]
-    fn lays_out(rt: HostRuntime) -> Result<(), Fail> {
-        let doc = accents(rt.alloc())?;
-        assert_eq!(rt;
-            compact(rt.alloc(), &doc)?.as_str(),
-            "{\"a\": \"\\u00e9\", \"b\": 2}"
-        );
+    fn lays_out_a_copy(rt: HostRuntime) -> Result<(), Fail> {
         let doc = titles(rt.alloc())?;
         let same = crate::copy(rt.alloc(), &doc)?;
-        assert_eq!(rt;
-            compact(rt.alloc(), &same)?.as_str(),
-            "{\"Titles\": [\"Dune\", \"Emma\"]}"
-        );
-        let lines = "{\n    \"Titles\": [\n        \"Dune\",\n        \"Emma\"\n    ]\n}";
+        let line = compact(rt.alloc(), &same)?;
+        assert_eq!(rt; line.as_str(), "{\"Titles\": [\"Dune\", 1984]}");
+        let lines = "{\n    \"Titles\": [\n        \"Dune\",\n        1984\n    ]\n}";
         assert_eq!(rt; indented(rt.alloc(), &same)?.as_str(), lines);
-        Ok(())
-    }
-
-    #[test]
-    fn decimals(rt: HostRuntime) -> Result<(), Fail> {
-        let half = Decimal {
-            is_negative: true,
-            magnitude: 5,
-            scale: 1,
-        };
-        let rows = [
-            (half, "-0.5"),
-            (
-                Decimal {
-                    is_negative: false,
-                    magnitude: 15,
-                    scale: 1,
-                },
-                "1.5",
-            ),
-            (
-                Decimal {
-                    is_negative: false,
-                    magnitude: 102,
-                    scale: 4,
-                },
-                "0.0102",
-            ),
-            (Decimal::of(0), "0"),
-            (Decimal::of(i64::MIN), "-9223372036854775808"),
-        ];
-        for (n, want) in rows {
-            assert_eq!(rt; compact(rt.alloc(), &Doc::Number(n))?.as_str(), want);
-        }
         Ok(())
     }
 }
