@@ -1,5 +1,5 @@
 -- Decimals that were written, as the grammar spells their numbers.
-use Rattle.std.proofs.Common.{◌≡◌, ℕ, zero, suc, ◌+◌, ◌-◌, ◌*◌, ◌/◌, ◌%◌, ◌^◌, ◌<◌, ◌≤◌, ◌==◌, Bool, true, false, ◌&&◌, nat_lt, if◌then◌else◌, ◌⊎◌, inl, inr, ⊎_elim, List, [], ◌∷◌, ◌++◌, length, replicate, get_or, slice_index, refl, sym, ap, ◌∙◌, subst, arith, append_assoc, append-nil, length-append}
+use Rattle.std.proofs.Common.{◌≡◌, ℕ, zero, suc, ◌+◌, ◌-◌, ◌*◌, ◌/◌, ◌%◌, ◌^◌, ◌<◌, ◌==◌, Bool, true, false, ◌&&◌, nat_lt, if◌then◌else◌, inl, inr, List, [], ◌∷◌, ◌++◌, length, replicate, get_or, refl, sym, ap, ◌∙◌, subst, arith, append-nil, length-append}
 use Rattle.std.specs.Char.{digit_value}
 use Rattle.std.specs.Fmt.{decimal}
 use Rattle.std.specs.Str.Parse.{digits_value, digits_value_after, AllDigits}
@@ -12,7 +12,7 @@ use Rattle.std.proofs.lemmas.Str.Parse.{digit_from_value}
 use Rattle.json_doc.specs.declared.decimal.Decimal.{Decimal}
 use Rattle.json_doc.specs.DecimalText.{sign_text, zero_filled, places_text, decimal_text}
 use Rattle.json_doc.specs.Exact.{HasValue}
-use Rattle.json_doc.specs.NumberToken.{Number, IsDigits, IsInt, minus, SpellsFrac, no_frac, with_frac, SpellsExp, no_exp, SpellsNumber, no_exponent, value_of}
+use Rattle.json_doc.specs.NumberToken.{Number, IsInt, SpellsFrac, no_frac, with_frac, no_exp, SpellsNumber, no_exponent, value_of}
 use Rattle.json_doc.proofs.DigitLists.{after-append}
 use Rattle.json_doc.proofs.LeastForms.{ten-pos}
 use Rattle.json_doc.proofs.TextsWritten.{IsLow, IsLow-append}

@@ -1,5 +1,5 @@
 -- The compact text of a document is in the grammar, as that document.
-use Rattle.std.proofs.Common.{◌≡◌, ℕ, ◌+◌, ◌<◌, ◌≤◌, max, Bool, true, false, List, [], ◌∷◌, ◌++◌, map, refl, sym, ap, ◌∙◌, subst, arith, append_assoc, append-nil}
+use Rattle.std.proofs.Common.{◌≡◌, ℕ, ◌+◌, ◌<◌, ◌≤◌, Bool, true, false, List, [], ◌∷◌, ◌++◌, map, refl, sym, ap, ◌∙◌, subst, arith, append_assoc, append-nil}
 use Rattle.std.specs.Prelude.{codes, encode_utf8_all}
 use Rattle.std.specs.List.{AllByRecursion, flat_map}
 use Rattle.std.proofs.lemmas.Str.{encode_ascii}
@@ -13,9 +13,9 @@ use Rattle.json_doc.specs.declared.pairs.Pair.{Pair}
 use Rattle.json_doc.specs.Compact.{compact_of}
 use Rattle.json_doc.specs.Documents.{greatest, depth_of, IsText, IsProper}
 use Rattle.json_doc.specs.Escapes.{quoted}
-use Rattle.json_doc.specs.Grammar.{Ws, Structural, String, put_all, Value, Values, Members, Member, Reads}
+use Rattle.json_doc.specs.Grammar.{Structural, String, put_all, Value, Values, Members, Member, Reads}
 use Rattle.json_doc.specs.Joined.{joined}
-use Rattle.json_doc.specs.Keys.{keys, IsDistinct, put}
+use Rattle.json_doc.specs.Keys.{keys, IsDistinct}
 use Rattle.json_doc.specs.Layouts.{field_text}
 use Rattle.json_doc.proofs.Gathering.{IsNew-before, put_last}
 use Rattle.json_doc.proofs.Layouts.{compact-Null, compact-Flag, compact-Number, compact-Str, compact-Items, compact-Fields}

@@ -1,11 +1,10 @@
 -- Escapes, texts and keys that were written compactly, as the grammar spells them.
-use Rattle.std.proofs.Common.{◌≡◌, ℕ, ◌+◌, ◌*◌, ◌-◌, ◌/◌, ◌%◌, ◌<◌, ◌≤◌, ◌==◌, ◌||◌, Bool, true, false, cond, ◌⊎◌, inl, inr, ⊎_elim, List, [], ◌∷◌, ◌++◌, Option, Some, None, refl, sym, ap, ◌∙◌, subst, arith, append_assoc}
+use Rattle.std.proofs.Common.{◌≡◌, ℕ, ◌+◌, ◌*◌, ◌-◌, ◌/◌, ◌%◌, ◌<◌, ◌≤◌, ◌==◌, ◌||◌, true, false, cond, inl, inr, ⊎_elim, List, [], ◌∷◌, ◌++◌, Some, None, refl, sym, ap, ◌∙◌, subst, arith, append_assoc}
 use Rattle.std.specs.Char.{IsScalar, digit_char}
 use Rattle.std.specs.Char.Escape.{encode_utf16}
-use Rattle.std.specs.Char.Utf16.{is_high_surrogate, is_low_surrogate, surrogate_pair_char}
+use Rattle.std.specs.Char.Utf16.{is_high_surrogate, is_low_surrogate}
 use Rattle.std.specs.List.{AllByRecursion, flat_map}
 use Rattle.std.specs.Option.{option_map_or}
-use Rattle.std.specs.Str.Parse.{digits_value}
 use Rattle.std.proofs.Math.Utf8.{scalar_cases}
 use Rattle.std.proofs.lemmas.Bool.{or_cases, eqb-true, and_parts, leb-true, cases_lt, lt-ltb, le-ltb}
 use Rattle.std.proofs.lemmas.Bool.Decides.{nat_tests}
@@ -90,6 +89,10 @@ unit_low u small = (omega arith, (omega arith, (low_digit _ (omega arith), (low_
 
 -- Characters.
 
+-- what is written of a character that has no letter
+abbrev unlettered : ℕ → List ℕ
+unlettered c = cond (is_bare Compact c) (c ∷ []) (flat_map unit_escape (encode_utf16 c))
+
 -- what is written of a character spells it, in ASCII
 record IsWritten (c : ℕ) (bs : List ℕ) : Type 0 where
   spells : SpellsChar c bs
@@ -132,17 +135,18 @@ units_written c scalar = elim (cases_lt c 65536) [
   | inr wide ↦ pair_written c wide (⊎_elim (λ h. omega arith) (λ h. h.1) (scalar_cases c scalar))
 ]
 
+-- a character without a letter
+plainly_written : (c : ℕ) → IsScalar c → letter_of c ≡ None → IsWritten c (unlettered c)
+plainly_written c scalar none =
+    elim (is_bare Compact c) as (λ b. is_bare Compact c ≡ b → IsWritten c (cond b (c ∷ []) (flat_map unit_escape (encode_utf16 c))))
+    [ true ↦ (λ bare. bare_written c scalar none bare) | false ↦ (λ other. units_written c scalar) ] refl
+
 escaped_written : (c : ℕ) → IsScalar c → IsWritten c (escaped Compact c)
 escaped_written c scalar =
-    let rest : List ℕ = if_bare in
-    elim (letter_of c) as (λ o. letter_of c ≡ o → IsWritten c (option_map_or (λ letter. 92 ∷ letter ∷ []) o rest)) [
+    elim (letter_of c) as (λ o. letter_of c ≡ o → IsWritten c (option_map_or (λ letter. 92 ∷ letter ∷ []) o (unlettered c))) [
       | Some l ↦ (λ e. let letter = letter_is c l e in record { spells = named letter.0 refl; low = (omega arith, (letter.1, tt)) })
-      | None ↦ (λ e. elim (is_bare Compact c) as (λ b. is_bare Compact c ≡ b → IsWritten c (cond b (c ∷ []) (flat_map unit_escape (encode_utf16 c))))
-          [ true ↦ (λ bare. bare_written c scalar e bare) | false ↦ (λ other. units_written c scalar) ] refl)
+      | None ↦ (λ e. plainly_written c scalar e)
     ] refl
-  where
-    if_bare : List ℕ
-    if_bare = cond (is_bare Compact c) (c ∷ []) (flat_map unit_escape (encode_utf16 c))
 
 -- Texts.
 

@@ -1,4 +1,5 @@
--- Documents as trees: how deep they nest, and what their types keep of each value in them.
+-- Documents as trees: how deep they nest (RFC 8259, section 9: a reader may limit it), and what their
+-- types keep of each value in them.
 use Rattle.std.specs.Prelude.{ℕ, ◌+◌, max, List, [], ◌∷◌, map}
 use Rattle.std.specs.Char.{IsScalar}
 use Rattle.std.specs.List.{AllByRecursion}
@@ -23,11 +24,11 @@ depth_step others = 0
 abbrev pub depth_of : Doc → ℕ
 depth_of = fold-Doc ℕ depth_step
 
--- made of Unicode's characters, of which the halves of surrogate pairs are none
+-- made of Unicode's characters, of which the halves of surrogate pairs are none (section 8.2)
 abbrev pub IsText : List ℕ → Type 0
 IsText cs = AllByRecursion IsScalar cs
 
--- what a value is by its type: its text or its keys are texts, and no key stands twice
+-- what a value is by its type: its text or its keys are texts, and no key stands twice (section 4)
 abbrev pub IsProperValue : Doc-F Doc → Type 0
 IsProperValue (Doc-F.Str t) = IsText t
 IsProperValue (Doc-F.Fields ps) = AllByRecursion IsText (keys ps) × IsDistinct (keys ps)
@@ -37,5 +38,6 @@ IsProperValue others = Unit {0}
 abbrev pub IsProper : Doc → Type 0
 IsProper = every-Doc IsProperValue
 
+-- a field with such a key and such a value
 abbrev pub IsProperField : Pair Doc → Type 0
 IsProperField p = IsText p.key × IsProper p.value

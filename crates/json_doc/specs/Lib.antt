@@ -5,6 +5,7 @@ pub mod DecimalValue
 pub mod Documents
 pub mod Escapes
 pub mod Exact
+pub mod FaultText
 pub mod Faults
 pub mod Gathered
 pub mod Grammar

@@ -1,3 +1,6 @@
+ghost use Rattle.std.specs.Prelude.{Some};
+ghost use Rattle.json_doc.specs.FaultText.{fault_text};
+
 use std::error::Error;
 use std::fmt;
 
@@ -14,6 +17,8 @@ pub enum ReadFault {
 }
 
 impl fmt::Display for ReadFault {
+    ghost output = { λ fault. Some (fault_text fault) };
+
     fn fmt<W: fmt::Write>(&self, f: &mut fmt::Formatter<W>) -> fmt::Result {
         match self {
             ReadFault::Syntax(at) => write!(f, "Not JSON at byte {at}"),

@@ -1,4 +1,4 @@
-use Rattle.std.proofs.Common.{◌≡◌, ap, ◌∙◌}
+use Rattle.std.proofs.Common.{ap, ◌∙◌}
 use Rattle.json_doc.specs.Keys.{value_at}
 use Rattle.json_doc.proofs.Texts.{chars_ascii}
 use Rattle.json_doc.proofs.pairs.Pairs.get.Goals as goal

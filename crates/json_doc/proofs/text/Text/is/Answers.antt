@@ -1,4 +1,4 @@
-use Rattle.std.proofs.Common.{◌≡◌, ap, ◌∙◌}
+use Rattle.std.proofs.Common.{ap, ◌∙◌}
 use Rattle.std.specs.Str.{bytes_eq, chars}
 use Rattle.json_doc.proofs.Texts.{bytes_eq-chars, chars_ascii}
 use Rattle.json_doc.proofs.text.Text.is.Goals as goal
