@@ -13,12 +13,15 @@ use Rattle.aws_main.specs.Folder.{IsModelFile, IsLookedAt}
 use Rattle.aws_main.specs.Words.{asked_of}
 use Rattle.aws_main.proofs.Service.{told}
 
+pub fault_at : (P Q : List ℕ → Type 0) (refusal : Unread) → FaultsAt P refusal → ((path : List ℕ) → P path → Q path) → FaultsAt Q refusal
+fault_at P Q NotBuilt fault give = tt
+fault_at P Q (FileFault path) fault give = give path fault
+fault_at P Q OutOfMemory fault give = tt
+
 -- a path of one kind is also of another
 pub other_path : {T : Type 0} (P Q : List ℕ → Type 0) (result : Result T Unread) → IfErr result (FaultsAt P) → ((path : List ℕ) → P path → Q path) → IfErr result (FaultsAt Q)
 other_path P Q (Ok x) fault give = tt
-other_path P Q (Err NotBuilt) fault give = tt
-other_path P Q (Err (FileFault path)) fault give = give path fault
-other_path P Q (Err OutOfMemory) fault give = tt
+other_path P Q (Err refusal) fault give = fault_at P Q refusal fault give
 
 some_same : {A : Type 0} (x y : A) → Some x ≡ Some y → x ≡ y
 some_same x y e = cc
@@ -37,7 +40,7 @@ refused_words words env held pure_no_memory none = tt
 -- a service whose model file isn't there, or can't be read
 pub refused_file : (words : List (List ℕ)) (env : Held) (held : Option Held) (asked : Asked) (refusal : Unread) → asked_of words ≡ Some asked
     → IfSome held (λ files. IsErrOf {T = List ℕ} {E = Unread} (Err refusal) NotBuilt → (bytes : List ℕ) → IsModelFile env files asked.service bytes → ⊥)
-    → FaultsAt (IsLookedAt env asked.service) refusal → IsRefusal words env held refusal
+    → FaultsAt (IsLookedAt env held asked.service) refusal → IsRefusal words env held refusal
 refused_file words env held asked NotBuilt is none path =
     told _ _ held none
     (λ files nothing planned plan.

@@ -1,5 +1,5 @@
 -- The last item at which a function gives something, and the newest of a folder's versions.
-use Rattle.std.proofs.Common.{◌≡◌, ℕ, zero, suc, ◌<◌, ◌≤◌, List, [], ◌∷◌, ◌++◌, length, slice_index_or, Option, None, Some, Result, Ok, Err, refl, sym, ap, ◌∙◌, subst, arith, ◌⊎◌, inl, inr}
+use Rattle.std.proofs.Common.{◌≡◌, ℕ, zero, suc, ◌<◌, ◌≤◌, List, [], ◌∷◌, ◌++◌, length, slice_index_or, Option, None, Some, Result, Ok, Err, refl, sym, ap, ◌∙◌, subst, arith, append_assoc, ◌⊎◌, inl, inr}
 use Rattle.std.specs.Prelude.{IfSome, IfOk, IsErrOf, AllPairs, Contains}
 use Rattle.aws_world.specs.FileTree.{IsBefore, IsListing, IsChild, HasBelow, IsLonger}
 use Rattle.std.specs.Prelude.{encode_utf8_all, bytes_eq, Bool, true, false, ◌||◌}
@@ -266,3 +266,11 @@ all_told P Q R S (Err z) None p q e f a b c give = tt
 all_told P Q R S (Ok y) (Some x) p q e f a b c give =
     give x y refl a (subst (λ o. IfSome o Q) e b) (subst (λ o. IfSome o (λ held. R held y)) f c)
 all_told P Q R S (Err z) (Some x) p q e f a b c give = tt
+
+-- the last of a front, and what is behind it
+pub in_front : (versions left smaller back : List (List ℕ)) (version : List ℕ) → versions ≡ left ++ back → left ≡ smaller ++ version ∷ [] → versions ≡ smaller ++ (version ∷ back)
+in_front versions left smaller back version e f = e ∙ ap (λ front. front ++ back) f ∙ append_assoc smaller (version ∷ []) back
+
+pub contains_middle : (smaller back : List (List ℕ)) (version : List ℕ) → Contains (smaller ++ (version ∷ back)) version
+contains_middle [] back version = (0, omega arith, refl)
+contains_middle (v ∷ vs) back version = let more = contains_middle vs back version in (suc more.0, omega (arith, more.1), more.2)

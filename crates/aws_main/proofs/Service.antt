@@ -11,6 +11,11 @@ pub told : {A : Type 0} (P Q : A → Type 0) (o : Option A) → IfSome o P → (
 told P Q None f give = tt
 told P Q (Some x) f give = give x f
 
+-- a fact of whatever is told
+pub always_told : {A : Type 0} (P : A → Type 0) (o : Option A) → ((x : A) → P x) → IfSome o P
+always_told P None here = tt
+always_told P (Some x) here = here x
+
 root_same : (x y : List ℕ) → Some x ≡ Some y → x ≡ y
 root_same x y e = cc
 

@@ -44,8 +44,8 @@ pub record IsPlanned (words : List (List ℕ)) (env : Held) (held : Option Held)
   pub request_is : IsRequestOf file planned
 
 -- the path is one at which a line's files are looked for
-abbrev pub IsNamedPath : List (List ℕ) → Held → List ℕ → Type 0
-IsNamedPath words env path = (asked : Asked) × (asked_of words ≡ Some asked) × IsLookedAt env asked.service path
+abbrev pub IsNamedPath : List (List ℕ) → Held → Option Held → List ℕ → Type 0
+IsNamedPath words env held path = (asked : Asked) × (asked_of words ≡ Some asked) × IsLookedAt env held asked.service path
 
 -- nothing is due of these words and files
 abbrev pub IsUnplanned : List (List ℕ) → Held → Option Held → Type 0
@@ -55,7 +55,7 @@ IsUnplanned words env held = IfSome held (λ files. (planned : Planned) → IsPl
 -- Want of memory is free.
 abbrev pub IsRefusal : List (List ℕ) → Held → Option Held → Unread → Type 0
 IsRefusal words env held read_not_built = IsUnplanned words env held
-IsRefusal words env held (read_fault path) = IsNamedPath words env path
+IsRefusal words env held (read_fault path) = IsNamedPath words env held path
 IsRefusal words env held read_no_memory = Unit {0}
 
 -- the answer to a whole reply: the text that is due, or NotBuilt where none is

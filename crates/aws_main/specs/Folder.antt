@@ -1,5 +1,5 @@
 -- Where a service's model stands among the files.
-use Rattle.std.specs.Prelude.{◌≡◌, ◌==◌, if◌then◌else◌, ℕ, ◌≤◌, ◌<◌, Bool, List, [], ◌∷◌, ◌++◌, Option, None, Some, length, codes, encode_utf8_all}
+use Rattle.std.specs.Prelude.{◌≡◌, ◌==◌, if◌then◌else◌, ℕ, ◌≤◌, ◌<◌, Bool, List, [], ◌∷◌, ◌++◌, Option, None, Some, length, codes, encode_utf8_all, Contains, IfSome}
 use Rattle.std.specs.List.{list_any}
 use Rattle.aws_world.specs.Env.{value_of}
 use Rattle.aws_world.specs.FileTree.{file_at, IsChild, IsBefore}
@@ -68,13 +68,18 @@ pub record IsModelFile (env files : List (List ℕ × List ℕ)) (service bytes 
 abbrev pub IsPathInRoot : List (List ℕ × List ℕ) → List ℕ → List ℕ → Type 0
 IsPathInRoot env service path = (root : List ℕ) × (root_of env ≡ Some root) × (path ≡ below root service)
 
--- the path of some version's model file in a folder
-abbrev pub IsVersionPath : List ℕ → List ℕ → Type 0
-IsVersionPath folder path = (version : List ℕ) × (path ≡ model_path folder version)
+-- the path of one of these versions' model file in a folder
+abbrev pub IsPathAmong : List ℕ → List (List ℕ) → List ℕ → Type 0
+IsPathAmong folder versions path = (version : List ℕ) × Contains versions version × (path ≡ model_path folder version)
+
+-- the path of a version's model file in a folder; of files that tell what they hold, a version in it
+abbrev pub IsVersionPath : Option (List (List ℕ × List ℕ)) → List ℕ → List ℕ → Type 0
+IsVersionPath held folder path =
+    (version : List ℕ) × IfSome held (λ files. IsChild folder files version) × (path ≡ model_path folder version)
 
 -- a path at which a service's files are looked for: the folder that the environment names, the
 -- service's folder in it, and the model file of a version in that
-pub data IsLookedAt (env : List (List ℕ × List ℕ)) (service path : List ℕ) : Type 0 where
-  at_root : root_of env ≡ Some path → IsLookedAt env service path
-  at_folder : IsPathInRoot env service path → IsLookedAt env service path
-  at_version : (folder : List ℕ) → IsPathInRoot env service folder → IsVersionPath folder path → IsLookedAt env service path
+pub data IsLookedAt (env : List (List ℕ × List ℕ)) (held : Option (List (List ℕ × List ℕ))) (service path : List ℕ) : Type 0 where
+  at_root : root_of env ≡ Some path → IsLookedAt env held service path
+  at_folder : IsPathInRoot env service path → IsLookedAt env held service path
+  at_version : (folder : List ℕ) → IsPathInRoot env service folder → IsVersionPath held folder path → IsLookedAt env held service path

@@ -3,7 +3,7 @@ ghost use Rattle.std.specs.List.{list_any};
 ghost use Rattle.std.specs.Str.{chars};
 ghost use Rattle.aws_world.specs.FileTree.{file_at, HasBelow, IsListing, IsLonger};
 ghost use Rattle.aws_main.specs.Causes.{HasFileCause, FaultsAt};
-ghost use Rattle.aws_main.specs.Folder.{below, model_path, model_at, last_some, has_colon, root_of, IsNoneOrLonger, IsServiceFolder, IsModelFile, IsPathInRoot, IsVersionPath, IsLookedAt};
+ghost use Rattle.aws_main.specs.Folder.{below, model_path, model_at, last_some, has_colon, root_of, IsNoneOrLonger, IsServiceFolder, IsModelFile, IsPathInRoot, IsPathAmong, IsLookedAt};
 ghost use Rattle.std.specs.Option.{option_copied};
 
 use crate::causes::Unread;
@@ -28,7 +28,7 @@ pub fn model_file<F: Files>(
         → (bytes : List ℕ) → IsModelFile env.now.pairs held service.now bytes → ⊥) }
     ensures only { IfSome (F.holds files.old) (λ held. IfOk result (λ made.
         (bytes : List ℕ) → IsModelFile env.now.pairs held service.now bytes → made ≡ bytes)) }
-    ensures path { IfErr result (FaultsAt (IsLookedAt env.now.pairs service.now)) }
+    ensures path { IfErr result (FaultsAt (IsLookedAt env.now.pairs (F.holds files.old) service.now)) }
     ensures cause { HasFileCause (F.faults files.old) (F.faults files.new) result }
 {
     let folder = match service_folder(alloc, env, files, service) {
@@ -110,7 +110,7 @@ fn newest<F: Files>(
     ensures small { IfOk result (λ bytes. length bytes ≤ 33554432) }
     ensures refused { IfSome (F.holds files.old) (λ held. IsErrOf result Unread.NotBuilt
         → IsNoneOrLonger 33554432 (last_some (model_at folder.now held) versions.now)) }
-    ensures fault { IfErr result (FaultsAt (IsVersionPath folder.now)) }
+    ensures fault { IfErr result (FaultsAt (IsPathAmong folder.now versions.now)) }
     ensures cause { HasFileCause (F.faults files.old) (F.faults files.new) result }
 {
     let mut left = versions;

@@ -1,7 +1,7 @@
 use Rattle.std.proofs.Common.{◌≡◌, ◌≤◌, ℕ, List, Some, Err, length, sym, ap, ◌∙◌, subst}
-use Rattle.std.specs.Prelude.{IfOk}
-use Rattle.aws_world.specs.FileTree.{IsListing}
-use Rattle.aws_main.specs.Folder.{last_some, model_at, IsModelFile, IsServiceFolder}
+use Rattle.std.specs.Prelude.{IfOk, IfSome, Contains}
+use Rattle.aws_world.specs.FileTree.{IsListing, IsChild}
+use Rattle.aws_main.specs.Folder.{last_some, model_at, IsModelFile, IsServiceFolder, IsPathAmong}
 use Rattle.aws_main.proofs.Newest.{both_told, all_told, reason_same, none_below, none_newest, one_model, model_of}
 use Rattle.aws_main.proofs.LinePlans.{other_path}
 use Rattle.aws_main.specs.Folder.IsLookedAt.{at_version}
@@ -45,4 +45,13 @@ returns-clause-only g c =
     one_model c.args.env.now.pairs held c.args.service.now c.in-Ok.folder c.as_slice.result.now bytes place (subst (IsListing c.in-Ok.folder held) (sym c.as_slice.ensures) listing) found)
 
 pub returns-clause-path : goal.returns-clause-path
-returns-clause-path g c = other_path _ _ c.newest.result c.newest.ensures.fault (λ path version. at_version c.in-Ok.folder c.in-Ok.ensures.path version)
+returns-clause-path g c =
+    other_path (IsPathAmong c.in-Ok.folder c.as_slice.result.now) _ c.newest.result c.newest.ensures.fault
+    (λ path among.
+    at_version c.in-Ok.folder c.in-Ok.ensures.path (
+      among.0,
+      subst (λ held. IfSome held (λ files. IsChild c.in-Ok.folder files among.0)) c.in-Ok.ensures.kept
+          (told _ _ (g.F.Files.holds c.service_folder.new.files) c.in-Ok-list.ensures.names
+          (λ held listing. (listing.exact among.0).0 (subst (λ all. Contains all among.0) c.as_slice.ensures among.1))),
+      among.2,
+    ))
