@@ -184,60 +184,64 @@ Transfer-Encoding: chunked\r\n\r\n2\r\n{\"\r\n9\r\nOther\":1}\r\n0\r\n\r\n",
     Ok(())
 }
 
+/// Replies of which nothing is printed.
+const OTHER_REPLIES: [&str; 15] = [
+    "",
+    "HTTP/1.1 200 OK\r\nContent-Length: 29\r\n\r\n{\"Titles\": [\"Dune\", \"Emma\"]}",
+    "HTTP/1.1 200 OK\r\nContent-Length: two\r\n\r\n{}",
+    "HTTP/1.1 200 OK\r\nContent-Length: 67108865\r\n\r\n{}",
+    "HTTP/1.1 201 Created\r\nContent-Length: 2\r\n\r\n{}",
+    "HTTP/1.1 404 Not Found\r\nContent-Length: 2\r\n\r\n{}",
+    "HTTP/1.1 200 OK\r\nContent-Encoding: gzip\r\n\r\n{}",
+    "HTTP/1.1 204 No Content\r\n\r\n",
+    "HTTP/1.1 200 OK\r\n\r\n",
+    "HTTP/1.1 200 OK\r\n\r\n[]",
+    "HTTP/1.1 200 OK\r\n\r\n{} {}",
+    "HTTP/1.1 200 OK\r\n\r\n{\"Titles\": \"Dune\"}",
+    "HTTP/1.1 200 OK\r\n\r\n{\"Titles\": [\"Dune\", 1]}",
+    "HTTP/1.1 200 OK\r\n\r\n{\"Titles\": null}",
+    "HTTP/1.1 200 OK\r\n\r\n{\"Titles\": [], \"Shelf\": [\"A\"]}",
+];
+
 #[test]
 fn replies_that_are_not_built(rt: HostRuntime) -> Result<(), Fail> {
-    let rows = [
-        "",
-        "HTTP/1.1 200 OK\r\nContent-Length: 29\r\n\r\n{\"Titles\": [\"Dune\", \"Emma\"]}",
-        "HTTP/1.1 200 OK\r\nContent-Length: two\r\n\r\n{}",
-        "HTTP/1.1 200 OK\r\nContent-Length: 67108865\r\n\r\n{}",
-        "HTTP/1.1 201 Created\r\nContent-Length: 2\r\n\r\n{}",
-        "HTTP/1.1 404 Not Found\r\nContent-Length: 2\r\n\r\n{}",
-        "HTTP/1.1 200 OK\r\nContent-Encoding: gzip\r\n\r\n{}",
-        "HTTP/1.1 204 No Content\r\n\r\n",
-        "HTTP/1.1 200 OK\r\n\r\n",
-        "HTTP/1.1 200 OK\r\n\r\n[]",
-        "HTTP/1.1 200 OK\r\n\r\n{} {}",
-        "HTTP/1.1 200 OK\r\n\r\n{\"Titles\": \"Dune\"}",
-        "HTTP/1.1 200 OK\r\n\r\n{\"Titles\": [\"Dune\", 1]}",
-        "HTTP/1.1 200 OK\r\n\r\n{\"Titles\": null}",
-        "HTTP/1.1 200 OK\r\n\r\n{\"Titles\": [], \"Shelf\": [\"A\"]}",
-    ];
-    for reply in rows {
+    for reply in OTHER_REPLIES {
         let outside = service(rt.alloc(), MODEL, reply)?;
         check(&rt, rt.alloc(), COMMAND, outside, &not_built(Some(REQUEST)))?;
     }
     Ok(())
 }
 
+/// Lines that break one of their rules each.
+const OTHER_WORDS: [&str; 23] = [
+    "",
+    "shelf list-titles",
+    "shelf list-titles --endpoint-url http://127.0.0.1:8080 --no-sign-request",
+    "shelf list-titles --no-sign-request --endpoint-url http://127.0.0.1:8080 --debug",
+    "shelf list-titles --no-sign-requests --endpoint-url http://127.0.0.1:8080",
+    "shelf list-titles --no-sign-request --endpoint http://127.0.0.1:8080",
+    "Shelf list-titles --no-sign-request --endpoint-url http://127.0.0.1:8080",
+    "shelf2 list-titles --no-sign-request --endpoint-url http://127.0.0.1:8080",
+    "book list-titles --no-sign-request --endpoint-url http://127.0.0.1:8080",
+    "shelf List-titles --no-sign-request --endpoint-url http://127.0.0.1:8080",
+    "shelf list-t --no-sign-request --endpoint-url http://127.0.0.1:8080",
+    "shelf list--titles --no-sign-request --endpoint-url http://127.0.0.1:8080",
+    "shelf list_titles --no-sign-request --endpoint-url http://127.0.0.1:8080",
+    "shelf list-books --no-sign-request --endpoint-url http://127.0.0.1:8080",
+    "shelf list-titles --no-sign-request --endpoint-url https://127.0.0.1:8080",
+    "shelf list-titles --no-sign-request --endpoint-url http://127.0.0.2:8080",
+    "shelf list-titles --no-sign-request --endpoint-url http://127.0.0.1",
+    "shelf list-titles --no-sign-request --endpoint-url http://127.0.0.1:",
+    "shelf list-titles --no-sign-request --endpoint-url http://127.0.0.1:0",
+    "shelf list-titles --no-sign-request --endpoint-url http://127.0.0.1:80",
+    "shelf list-titles --no-sign-request --endpoint-url http://127.0.0.1:08080",
+    "shelf list-titles --no-sign-request --endpoint-url http://127.0.0.1:65536",
+    "shelf list-titles --no-sign-request --endpoint-url http://127.0.0.1:8080/",
+];
+
 #[test]
 fn words_that_are_not_built(rt: HostRuntime) -> Result<(), Fail> {
-    let rows = [
-        "",
-        "shelf list-titles",
-        "shelf list-titles --endpoint-url http://127.0.0.1:8080 --no-sign-request",
-        "shelf list-titles --no-sign-request --endpoint-url http://127.0.0.1:8080 --debug",
-        "shelf list-titles --no-sign-requests --endpoint-url http://127.0.0.1:8080",
-        "shelf list-titles --no-sign-request --endpoint http://127.0.0.1:8080",
-        "Shelf list-titles --no-sign-request --endpoint-url http://127.0.0.1:8080",
-        "shelf2 list-titles --no-sign-request --endpoint-url http://127.0.0.1:8080",
-        "book list-titles --no-sign-request --endpoint-url http://127.0.0.1:8080",
-        "shelf List-titles --no-sign-request --endpoint-url http://127.0.0.1:8080",
-        "shelf list-t --no-sign-request --endpoint-url http://127.0.0.1:8080",
-        "shelf list--titles --no-sign-request --endpoint-url http://127.0.0.1:8080",
-        "shelf list_titles --no-sign-request --endpoint-url http://127.0.0.1:8080",
-        "shelf list-books --no-sign-request --endpoint-url http://127.0.0.1:8080",
-        "shelf list-titles --no-sign-request --endpoint-url https://127.0.0.1:8080",
-        "shelf list-titles --no-sign-request --endpoint-url http://127.0.0.2:8080",
-        "shelf list-titles --no-sign-request --endpoint-url http://127.0.0.1",
-        "shelf list-titles --no-sign-request --endpoint-url http://127.0.0.1:",
-        "shelf list-titles --no-sign-request --endpoint-url http://127.0.0.1:0",
-        "shelf list-titles --no-sign-request --endpoint-url http://127.0.0.1:80",
-        "shelf list-titles --no-sign-request --endpoint-url http://127.0.0.1:08080",
-        "shelf list-titles --no-sign-request --endpoint-url http://127.0.0.1:65536",
-        "shelf list-titles --no-sign-request --endpoint-url http://127.0.0.1:8080/",
-    ];
-    for line in rows {
+    for line in OTHER_WORDS {
         let outside = service(rt.alloc(), MODEL, TITLES)?;
         check(&rt, rt.alloc(), line, outside, &not_built(None))?;
     }
@@ -253,74 +257,76 @@ fn changed(alloc: Global, part: &str, other: &str) -> Result<Outside, OutOfMemor
     service(alloc, text.as_str(), TITLES)
 }
 
+/// Parts of the model, each with another form that breaks one of its rules.
+const OTHER_MODELS: [(&str, &str); 24] = [
+    (MODEL, "[]"),
+    ("\"metadata\":", "\"metadata\""),
+    ("}}}}}", "}}}}} x"),
+    ("\"protocol\":\"json\"", "\"protocol\":\"query\""),
+    (
+        "\"protocol\":\"json\"",
+        "\"protocol\":\"json\",\"protocols\":[\"json\"]",
+    ),
+    ("\"jsonVersion\":\"1.1\",", ""),
+    ("\"jsonVersion\":\"1.1\"", "\"jsonVersion\":1.1"),
+    (
+        "\"targetPrefix\":\"Shelf_20240501\"",
+        "\"targetPrefix\":null",
+    ),
+    ("\"operations\":{", "\"operations\":{\"listAll\":{},"),
+    ("\"ListTitles\":{", "\"ListTitle\":{"),
+    ("\"name\":\"ListTitles\",", ""),
+    (
+        "\"name\":\"ListTitles\"",
+        "\"name\":\"ListTitles\",\"deprecated\":true",
+    ),
+    ("\"method\":\"POST\"", "\"method\":\"GET\""),
+    ("\"requestUri\":\"/\"", "\"requestUri\":\"/titles\""),
+    (
+        "\"requestUri\":\"/\"",
+        "\"requestUri\":\"/\",\"responseCode\":200",
+    ),
+    (
+        "\"members\":{}",
+        "\"members\":{\"Shelf\":{\"shape\":\"Text\"}}",
+    ),
+    (
+        "\"Nothing\":{\"type\":\"structure\"",
+        "\"Nothing\":{\"type\":\"map\"",
+    ),
+    (
+        "\"input\":{\"shape\":\"Nothing\"}",
+        "\"input\":{\"shape\":\"Missing\"}",
+    ),
+    (
+        "\"output\":{\"shape\":\"TitlesOut\"}",
+        "\"output\":{\"shape\":\"Texts\"}",
+    ),
+    (
+        "\"Titles\":{\"shape\":\"Texts\"}",
+        "\"Titles\":{\"shape\":\"Missing\"}",
+    ),
+    (
+        "\"Titles\":{\"shape\":\"Texts\"}",
+        "\"Titles\":{\"shape\":\"Texts\",\"locationName\":\"titles\"}",
+    ),
+    (
+        "\"Text\":{\"type\":\"string\"}",
+        "\"Text\":{\"type\":\"integer\"}",
+    ),
+    (
+        "\"Text\":{\"type\":\"string\"}",
+        "\"Text\":{\"type\":\"string\",\"min\":1}",
+    ),
+    (
+        "\"type\":\"list\",\"member\":{\"shape\":\"Text\"}",
+        "\"type\":\"list\"",
+    ),
+];
+
 #[test]
 fn models_that_are_not_built(rt: HostRuntime) -> Result<(), Fail> {
-    let rows = [
-        (MODEL, "[]"),
-        ("\"metadata\":", "\"metadata\""),
-        ("}}}}}", "}}}}} x"),
-        ("\"protocol\":\"json\"", "\"protocol\":\"query\""),
-        (
-            "\"protocol\":\"json\"",
-            "\"protocol\":\"json\",\"protocols\":[\"json\"]",
-        ),
-        ("\"jsonVersion\":\"1.1\",", ""),
-        ("\"jsonVersion\":\"1.1\"", "\"jsonVersion\":1.1"),
-        (
-            "\"targetPrefix\":\"Shelf_20240501\"",
-            "\"targetPrefix\":null",
-        ),
-        ("\"operations\":{", "\"operations\":{\"listAll\":{},"),
-        ("\"ListTitles\":{", "\"ListTitle\":{"),
-        ("\"name\":\"ListTitles\",", ""),
-        (
-            "\"name\":\"ListTitles\"",
-            "\"name\":\"ListTitles\",\"deprecated\":true",
-        ),
-        ("\"method\":\"POST\"", "\"method\":\"GET\""),
-        ("\"requestUri\":\"/\"", "\"requestUri\":\"/titles\""),
-        (
-            "\"requestUri\":\"/\"",
-            "\"requestUri\":\"/\",\"responseCode\":200",
-        ),
-        (
-            "\"members\":{}",
-            "\"members\":{\"Shelf\":{\"shape\":\"Text\"}}",
-        ),
-        (
-            "\"Nothing\":{\"type\":\"structure\"",
-            "\"Nothing\":{\"type\":\"map\"",
-        ),
-        (
-            "\"input\":{\"shape\":\"Nothing\"}",
-            "\"input\":{\"shape\":\"Missing\"}",
-        ),
-        (
-            "\"output\":{\"shape\":\"TitlesOut\"}",
-            "\"output\":{\"shape\":\"Texts\"}",
-        ),
-        (
-            "\"Titles\":{\"shape\":\"Texts\"}",
-            "\"Titles\":{\"shape\":\"Missing\"}",
-        ),
-        (
-            "\"Titles\":{\"shape\":\"Texts\"}",
-            "\"Titles\":{\"shape\":\"Texts\",\"locationName\":\"titles\"}",
-        ),
-        (
-            "\"Text\":{\"type\":\"string\"}",
-            "\"Text\":{\"type\":\"integer\"}",
-        ),
-        (
-            "\"Text\":{\"type\":\"string\"}",
-            "\"Text\":{\"type\":\"string\",\"min\":1}",
-        ),
-        (
-            "\"type\":\"list\",\"member\":{\"shape\":\"Text\"}",
-            "\"type\":\"list\"",
-        ),
-    ];
-    for (part, other) in rows {
+    for (part, other) in OTHER_MODELS {
         assert!(rt; MODEL.contains(part), "{part}");
         let outside = changed(rt.alloc(), part, other)?;
         check(&rt, rt.alloc(), COMMAND, outside, &not_built(None))?;
