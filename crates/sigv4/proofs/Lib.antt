@@ -1,0 +1,9 @@
+pub mod Appends
+pub mod Blanks
+pub mod Epoch
+pub mod Escapes
+pub mod HeaderSteps
+pub mod Listed
+pub mod PathParts
+pub mod PlainDigits
+pub mod SortedPairs

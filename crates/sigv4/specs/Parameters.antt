@@ -1,0 +1,33 @@
+-- The canonical query: AWS's "Create a signed AWS API request", CanonicalQueryString.
+use Rattle.std.specs.Prelude.{ℕ, List, ◌++◌, ◌∷◌, map, codes, encode_utf8_all, IsPermutation, IsSorted}
+use Rattle.std.specs.Borrow.{Bor}
+use Rattle.std.specs.Str.{chars}
+use Rattle.std.specs.Ordering.{nat_cmp, ordering_then}
+use Rattle.std.specs.declared.cmp.Ordering.{Ordering}
+use Rattle.std.specs.Cmp.Lexicographic.{slice_cmp}
+use Rattle.sigv4.specs.Joined.{joined}
+
+-- the order of texts by their bytes
+abbrev pub text_cmp : List ℕ → List ℕ → Ordering
+text_cmp a b = slice_cmp nat_cmp (encode_utf8_all a) (encode_utf8_all b)
+
+-- by the name, then by the value
+abbrev pub parameter_cmp : List ℕ × List ℕ → List ℕ × List ℕ → Ordering
+parameter_cmp p q = ordering_then (text_cmp p.0 q.0) (text_cmp p.1 q.1)
+
+-- the sorted permutation of the parameters
+pub record IsSortedQuery (query sorted : List (List ℕ × List ℕ)) : Type 0 where
+  pub permutation : IsPermutation query sorted
+  pub ascending : IsSorted parameter_cmp sorted
+
+-- a parameter, whose name and value are already escaped
+abbrev pub parameter : List ℕ × List ℕ → List ℕ
+parameter p = p.0 ++ codes "=" ++ p.1
+
+-- the text of sorted parameters
+abbrev pub query_text : List (List ℕ × List ℕ) → List ℕ
+query_text sorted = joined (codes "&") (map parameter sorted)
+
+-- the characters of a parameter that is borrowed
+abbrev pub shown : Bor (List ℕ) × Bor (List ℕ) → List ℕ × List ℕ
+shown p = (chars p.0.now, chars p.1.now)

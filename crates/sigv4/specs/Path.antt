@@ -1,0 +1,54 @@
+-- The canonical path: AWS's "Create a signed AWS API request", CanonicalUri.
+use Rattle.std.specs.Prelude.{ℕ, ◌-◌, ◌/◌, ◌%◌, ◌==◌, ◌&&◌, ◌||◌, nat_le, nat_eq, Bool, if◌then◌else◌, List, [], ◌∷◌, ◌++◌, length, take, flat_map, slice_index, codes, bytes_eq, encode_utf8_all}
+use Rattle.std.specs.List.{ends_with}
+
+-- the parts between slashes, where the first goes on from a start
+abbrev pub parts_from : List ℕ → List ℕ → List (List ℕ)
+parts_from start [] = start ∷ []
+parts_from start (c ∷ cs) = if c == 47 then start ∷ parts_from [] cs else parts_from (start ++ c ∷ []) cs
+
+-- the segments with one more: an empty one and `.` are dropped, `..` takes the one before it away
+-- (RFC 3986, section 5.2.4)
+abbrev pub with_segment : List (List ℕ) → List ℕ → List (List ℕ)
+with_segment kept part =
+    if bytes_eq part [] || bytes_eq part (codes ".") then kept
+    else if bytes_eq part (codes "..") then take (length kept - 1) kept
+    else kept ++ part ∷ []
+
+-- the segments with more parts, one after another
+abbrev pub with_segments : List (List ℕ) → List (List ℕ) → List (List ℕ)
+with_segments kept [] = kept
+with_segments kept (part ∷ parts) = with_segments (with_segment kept part) parts
+
+-- the segments of a path that are left
+abbrev pub segments_of : List ℕ → List (List ℕ)
+segments_of path = with_segments [] (parts_from [] path)
+
+-- a slash at the end, where the path has one
+abbrev pub final_slash : List ℕ → List ℕ
+final_slash path = if ends_with nat_eq (encode_utf8_all path) (codes "/") then codes "/" else []
+
+-- each segment behind a slash, and the end; one slash where there is no segment
+abbrev pub rooted : List (List ℕ) → List ℕ → List ℕ
+rooted [] end = codes "/"
+rooted (segment ∷ segments) end = flat_map (λ s. 47 ∷ s) (segment ∷ segments) ++ end
+
+-- the path without empty and dot segments
+abbrev pub normal_path : List ℕ → List ℕ
+normal_path path = rooted (segments_of path) (final_slash path)
+
+-- the unreserved characters (RFC 3986, section 2.3): letters, digits, `-`, `.`, `_` and `~`
+abbrev pub is_unreserved : ℕ → Bool
+is_unreserved b =
+    (nat_le 65 b && nat_le b 90) || (nat_le 97 b && nat_le b 122) || (nat_le 48 b && nat_le b 57)
+    || (b == 45) || (b == 46) || (b == 95) || (b == 126)
+
+-- a byte of a path as it stands in a canonical one: an escape has `%` and two upper-case hex digits
+abbrev pub escaped_byte : ℕ → List ℕ
+escaped_byte b =
+    if is_unreserved b || (b == 47) then b ∷ []
+    else 37 ∷ slice_index (codes "0123456789ABCDEF") (b / 16) ∷ slice_index (codes "0123456789ABCDEF") (b % 16) ∷ []
+
+-- the canonical path of a path that is already escaped: each byte is escaped once more
+abbrev pub canonical_path : List ℕ → List ℕ
+canonical_path path = flat_map escaped_byte (encode_utf8_all (normal_path path))

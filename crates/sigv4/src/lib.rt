@@ -1,0 +1,23 @@
+//! AWS Signature Version 4: HMAC with SHA-256, and requests signed at a moment.
+#![tactic(auto)]
+
+mod authorization;
+mod canonical;
+mod header_names;
+mod header_values;
+mod keyed_hash;
+mod moments;
+mod parameters;
+mod paths;
+mod pieces;
+mod sign_fault;
+mod signed_headers;
+mod signer;
+mod signing;
+#[cfg(test)]
+mod tests;
+
+pub use keyed_hash::hmac;
+pub use sign_fault::SignFault;
+pub use signer::Signer;
+pub use signing::sign;

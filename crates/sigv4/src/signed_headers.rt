@@ -1,0 +1,80 @@
+ghost use Rattle.std.specs.Prelude.{◌≡◌, ◌++◌, IfOk, OnOk, codes};
+ghost use Rattle.sigv4.specs.Headers.{AreNames, signed_headers, values_of, header_line, header_lines};
+ghost use Rattle.sigv4.specs.Joined.{joined};
+
+use crate::header_names::names_of;
+use crate::header_values::{canonical_value, lowered};
+use json_doc::{List, OutOfMemory, Text};
+use std::alloc::Global;
+
+/// The headers that are signed, as they are signed.
+#[derive(Drop)]
+pub struct SignedHeaders {
+    /// Names in small letters with canonical values, in the message's order.
+    pub fields: List<(Text, Text)>,
+    /// Each name once, in order.
+    pub names: List<Text>,
+}
+
+impl SignedHeaders {
+    /// Those of a message.
+    pub fn of(alloc: Global, headers: &[(Text, Text)]) -> Result<SignedHeaders, OutOfMemory>
+        ensures fields { IfOk result (λ signed. signed.fields ≡ signed_headers headers.now) }
+        ensures names { IfOk result (λ signed. AreNames (signed_headers headers.now) signed.names) }
+    {
+        let fields = signed_fields(alloc, headers)?;
+        let names = names_of(alloc, fields.as_slice())?;
+        Ok(SignedHeaders { fields, names })
+    }
+
+    /// Puts a line for each name.
+    pub fn push_lines(&self, out: &mut Text) -> Result<(), OutOfMemory>
+        ensures { OnOk result (out.new ≡ out.old ++ header_lines self.now.fields self.now.names) }
+    {
+        for name in self.names.as_slice() {
+            push_line(out, self.fields.as_slice(), name)?;
+        }
+        Ok(())
+    }
+}
+
+/// All headers but `Authorization`, with names in small letters and canonical values.
+fn signed_fields(alloc: Global, headers: &[(Text, Text)]) -> Result<List<(Text, Text)>, OutOfMemory>
+    ensures { IfOk result (λ fields. fields ≡ signed_headers headers.now) }
+{
+    let mut fields = List::new(alloc);
+    for (name, value) in headers {
+        let lower = lowered(alloc, name.as_str())?;
+        if lower.is("authorization") {
+            continue;
+        }
+        fields.push((lower, canonical_value(alloc, value.as_str())?))?;
+    }
+    Ok(fields)
+}
+
+/// Puts a name with its values and a line end.
+fn push_line(out: &mut Text, fields: &[(Text, Text)], name: &Text) -> Result<(), OutOfMemory>
+    ensures { OnOk result (out.new ≡ out.old ++ header_line fields.now name.now) }
+{
+    out.push_str(name.as_str())?;
+    out.push_ascii(":")?;
+    push_values(out, fields, name)?;
+    out.push_ascii("\n")
+}
+
+/// Puts the values of a name with a comma between each two.
+fn push_values(out: &mut Text, fields: &[(Text, Text)], name: &Text) -> Result<(), OutOfMemory>
+    ensures { OnOk result (out.new ≡ out.old ++ joined (codes ",") (values_of fields.now name.now)) }
+{
+    let mut before = "";
+    for (other, value) in fields {
+        if other != name {
+            continue;
+        }
+        out.push_ascii(before)?;
+        out.push_str(value.as_str())?;
+        before = ",";
+    }
+    Ok(())
+}

@@ -1,0 +1,112 @@
+ghost use Rattle.std.specs.Prelude.{◌≡◌, ◌⊎◌, IsTrue, IfOk, IfErr, Err};
+ghost use Rattle.json_doc.specs.Ascii.{is_ascii_text};
+ghost use Rattle.sigv4.specs.Moment.{IsMoment, IsAt};
+ghost use Rattle.sigv4.specs.Signature.{IsSigned, IsSignedAt, with_header, with_token, stamped};
+
+use crate::authorization::authorization;
+use crate::canonical::canonical_request;
+use crate::moments::{moment_at, push_moment};
+use crate::parameters::sorted_query;
+use crate::pieces::{copy_pairs, push_header};
+use crate::sign_fault::SignFault;
+use crate::signed_headers::SignedHeaders;
+use crate::signer::Signer;
+use aws_world::Message;
+use jiff::civil::DateTime;
+use json_doc::{Bytes, OutOfMemory, Text};
+use std::alloc::Global;
+
+/// The message signed at a moment in seconds since 1970 (AWS Signature Version 4): with `X-Amz-Date`,
+/// `X-Amz-Security-Token` where there is a session, and `Authorization` behind its headers.
+/// `BadClock` comes exactly where the moment lies before 1970 or after the year 9999.
+pub fn sign(
+    alloc: Global,
+    message: &Message,
+    signer: &Signer,
+    now: i64,
+) -> Result<Message, SignFault>
+    ensures signed { IfOk result (IsSigned message.now signer.now now) }
+    ensures outside { ¬ IsMoment now → result ≡ Err (SignFault.BadClock now) }
+    ensures refused { IfErr result (λ fault. (fault ≡ SignFault.OutOfMemory) ⊎ ((fault ≡ SignFault.BadClock now) × ¬ IsMoment now)) }
+{
+    let Some(moment) = moment_at(now) else {
+        return Err(SignFault::BadClock(now));
+    };
+    let signed = signed_at(alloc, message, signer, moment)?;
+    Ok(signed)
+}
+
+/// The message signed at a date and time of day.
+fn signed_at(
+    alloc: Global,
+    message: &Message,
+    signer: &Signer,
+    moment: DateTime,
+) -> Result<Message, OutOfMemory>
+    ensures { IfOk result (IsSignedAt message.now signer.now moment) }
+{
+    let made = stamped(alloc, message, signer, moment)?;
+    let query = sorted_query(alloc, message.query.as_slice())?;
+    let headers = SignedHeaders::of(alloc, made.headers.as_slice())?;
+    let request = canonical_request(alloc, &made, query.as_slice(), &headers)?;
+    let value = authorization(alloc, signer, moment, headers.names.as_slice(), &request)?;
+    Ok(with_header(alloc, made, "Authorization", value)?)
+}
+
+/// A copy of the message with its moment, and with the session's token where there is a session.
+fn stamped(
+    alloc: Global,
+    message: &Message,
+    signer: &Signer,
+    moment: DateTime,
+) -> Result<Message, OutOfMemory>
+    ensures { IfOk result (λ made. made ≡ stamped message.now signer.now moment) }
+{
+    let mut date = Text::new(alloc);
+    push_moment(&mut date, moment)?;
+    let dated = with_header(alloc, copy(alloc, message)?, "X-Amz-Date", date)?;
+    with_token(alloc, dated, &signer.session)
+}
+
+/// The message with a session's token, where there is one.
+fn with_token(
+    alloc: Global,
+    message: Message,
+    session: &Option<Text>,
+) -> Result<Message, OutOfMemory>
+    ensures { IfOk result (λ made. made ≡ with_token message session.now) }
+{
+    match session {
+        Some(token) => with_header(alloc, message, "X-Amz-Security-Token", token.copy(alloc)?),
+        None => Ok(message),
+    }
+}
+
+/// The message with one more header.
+fn with_header(
+    alloc: Global,
+    message: Message,
+    name: &str,
+    value: Text,
+) -> Result<Message, OutOfMemory>
+    requires { IsTrue (is_ascii_text name.now) }
+    ensures { IfOk result (λ made. made ≡ with_header message name.now value) }
+{
+    let mut made = message;
+    push_header(alloc, &mut made.headers, name, value)?;
+    Ok(made)
+}
+
+/// An equal message.
+fn copy(alloc: Global, message: &Message) -> Result<Message, OutOfMemory>
+    ensures { IfOk result (λ made. made ≡ message.now) }
+{
+    Ok(Message {
+        method: message.method.copy(alloc)?,
+        host: message.host.copy(alloc)?,
+        path: message.path.copy(alloc)?,
+        query: copy_pairs(alloc, message.query.as_slice())?,
+        headers: copy_pairs(alloc, message.headers.as_slice())?,
+        body: Bytes::from_slice(alloc, message.body.as_slice())?,
+    })
+}
