@@ -1,0 +1,5 @@
+pub mod Faults
+pub mod Names
+pub mod Paginators
+pub mod Reading
+pub mod Waiters

@@ -1,0 +1,105 @@
+ghost use Rattle.std.specs.Prelude.{◌≡◌, IsTrue, IfOk};
+ghost use Rattle.std.specs.Str.{chars};
+ghost use Rattle.json_doc.specs.Ascii.{is_ascii_text};
+ghost use Rattle.model_files.specs.declared.fault.ModelFault.TheVariants as fault;
+ghost use Rattle.model_files.specs.Faults.{below, moved, IsFault};
+
+use json_doc::{OutOfMemory, Text};
+use std::alloc::{AllocError, AllocFailed, Global};
+use std::error::Error;
+use std::fmt;
+
+/// The first fault of a model file. The text is its place: the keys and positions that lead to it,
+/// joined by dots.
+#[derive(Debug, Drop)]
+pub enum ModelFault {
+    /// A needed key isn't there.
+    Missing(Text),
+    /// A shape is named that the model lacks.
+    UnknownShape(Text),
+    /// A value is of another kind, or none of the choices.
+    WrongKind(Text),
+    /// An earlier operation has the same command name.
+    Collides(Text),
+    OutOfMemory,
+}
+
+impl fmt::Display for ModelFault {
+    fn fmt<W: fmt::Write>(&self, f: &mut fmt::Formatter<W>) -> fmt::Result {
+        match self {
+            ModelFault::Missing(place) => write!(f, "nothing at {place}"),
+            ModelFault::UnknownShape(place) => write!(f, "no such shape at {place}"),
+            ModelFault::WrongKind(place) => write!(f, "wrong value at {place}"),
+            ModelFault::Collides(place) => write!(f, "second command of the name at {place}"),
+            ModelFault::OutOfMemory => f.write_str("out of memory"),
+        }
+    }
+}
+
+impl Error for ModelFault {}
+
+impl From<OutOfMemory> for ModelFault {
+    ghost from_gives = { λ _ e. e ≡ fault.OutOfMemory };
+
+    fn from(_error: OutOfMemory) -> ModelFault {
+        ModelFault::OutOfMemory
+    }
+}
+
+impl From<AllocError> for ModelFault {
+    ghost from_gives = { λ _ e. e ≡ fault.OutOfMemory };
+
+    fn from(_error: AllocError) -> ModelFault {
+        ModelFault::OutOfMemory
+    }
+}
+
+impl<T: Drop> From<AllocFailed<T>> for ModelFault {
+    ghost from_gives = { λ _ e. e ≡ fault.OutOfMemory };
+
+    fn from(_error: AllocFailed<T>) -> ModelFault {
+        ModelFault::OutOfMemory
+    }
+}
+
+/// A fault of what stands at the key, as a fault of the object that holds the key.
+#[tactic(auto, using(json_doc::proofs::Texts::chars_ascii))]
+pub fn move_below(alloc: Global, key: &str, fault: ModelFault) -> ModelFault
+    ensures value { IsFault result (moved (chars key.now) fault) }
+    ensures ascii { IsTrue (is_ascii_text key.now) → IsFault result (moved key.now fault) }
+{
+    match fault {
+        ModelFault::Missing(place) => match place_below(alloc, key, &place) {
+            Ok(place) => ModelFault::Missing(place),
+            Err(_) => ModelFault::OutOfMemory,
+        },
+        ModelFault::UnknownShape(place) => match place_below(alloc, key, &place) {
+            Ok(place) => ModelFault::UnknownShape(place),
+            Err(_) => ModelFault::OutOfMemory,
+        },
+        ModelFault::WrongKind(place) => match place_below(alloc, key, &place) {
+            Ok(place) => ModelFault::WrongKind(place),
+            Err(_) => ModelFault::OutOfMemory,
+        },
+        ModelFault::Collides(place) => match place_below(alloc, key, &place) {
+            Ok(place) => ModelFault::Collides(place),
+            Err(_) => ModelFault::OutOfMemory,
+        },
+        ModelFault::OutOfMemory => ModelFault::OutOfMemory,
+    }
+}
+
+/// The place at this place below the key.
+#[tactic(auto, using(json_doc::proofs::Texts::chars_ascii))]
+fn place_below(alloc: Global, key: &str, place: &Text) -> Result<Text, OutOfMemory>
+    ensures value { IfOk result (λ made. made ≡ below (chars key.now) place.now) }
+    ensures ascii { IsTrue (is_ascii_text key.now) → IfOk result (λ made. made ≡ below key.now place.now) }
+{
+    let mut below = Text::from_str(alloc, key)?;
+    if place.is_empty() {
+        return Ok(below);
+    }
+    below.push_ascii(".")?;
+    below.push_str(place.as_str())?;
+    Ok(below)
+}

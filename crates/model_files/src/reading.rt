@@ -1,0 +1,300 @@
+//! Parts of a document by their keys and kinds, or the fault that stands for them.
+ghost use Rattle.std.specs.Prelude.{◌≡◌, [], IsTrue, IfOk};
+ghost use Rattle.std.specs.Fmt.{decimal};
+ghost use Rattle.std.specs.Option.{option_copied};
+ghost use Rattle.json_doc.specs.Ascii.{is_ascii_text};
+ghost use Rattle.model_files.specs.declared.fault.ModelFault.TheVariants as fault;
+ghost use Rattle.model_files.specs.Faults.{below, moved, each_from, IsFault, Gives};
+ghost use Rattle.model_files.specs.Reading.{fields_of, text_of, flag_of, items_of, needed, object_at, text_at, items_at, maybe_text, maybe_object, flag_at, texts_of, texts_at, maybe_texts, is_true_at};
+
+use crate::ModelFault;
+use crate::fault::move_below;
+use json_doc::{Doc, List, OutOfMemory, Pairs, Text};
+use std::alloc::Global;
+
+/// The fault of a value of another kind.
+pub fn wrong_kind(alloc: Global) -> ModelFault
+    ensures { result ≡ fault.WrongKind [] }
+{
+    ModelFault::WrongKind(Text::new(alloc))
+}
+
+/// The members of a document that is to be an object.
+#[tactic(auto, unfolding(crate::specs::Reading::fields_of))]
+pub fn object(alloc: Global, doc: &Doc) -> Result<&Pairs<Doc>, ModelFault>
+    ensures { Gives (λ pairs. pairs.now) (fields_of doc.now) result }
+{
+    match doc {
+        Doc::Fields(pairs) => Ok(pairs),
+        _ => Err(wrong_kind(alloc)),
+    }
+}
+
+#[tactic(auto, unfolding(crate::specs::Reading::text_of))]
+pub fn text(alloc: Global, doc: &Doc) -> Result<&Text, ModelFault>
+    ensures { Gives (λ text. text.now) (text_of doc.now) result }
+{
+    match doc {
+        Doc::Str(text) => Ok(text),
+        _ => Err(wrong_kind(alloc)),
+    }
+}
+
+#[tactic(auto, unfolding(crate::specs::Reading::flag_of))]
+pub fn flag(alloc: Global, doc: &Doc) -> Result<bool, ModelFault>
+    ensures { Gives (λ flag. flag) (flag_of doc.now) result }
+{
+    match doc {
+        Doc::Flag(flag) => Ok(*flag),
+        _ => Err(wrong_kind(alloc)),
+    }
+}
+
+#[tactic(auto, unfolding(crate::specs::Reading::items_of))]
+pub fn items(alloc: Global, doc: &Doc) -> Result<&List<Doc>, ModelFault>
+    ensures { Gives (λ items. items.now) (items_of doc.now) result }
+{
+    match doc {
+        Doc::Items(items) => Ok(items),
+        _ => Err(wrong_kind(alloc)),
+    }
+}
+
+/// The fault of a needed key that isn't there.
+pub fn missing(alloc: Global, key: &str) -> ModelFault
+    requires { IsTrue (is_ascii_text key.now) }
+    ensures { IsFault result (fault.Missing key.now) }
+{
+    match ascii_text(alloc, key) {
+        Ok(place) => ModelFault::Missing(place),
+        Err(_) => ModelFault::OutOfMemory,
+    }
+}
+
+/// The fault of a value at a key that is none of its choices.
+pub fn wrong(alloc: Global, key: &str) -> ModelFault
+    requires { IsTrue (is_ascii_text key.now) }
+    ensures { IsFault result (fault.WrongKind key.now) }
+{
+    match ascii_text(alloc, key) {
+        Ok(place) => ModelFault::WrongKind(place),
+        Err(_) => ModelFault::OutOfMemory,
+    }
+}
+
+/// The text of a string in ASCII.
+pub fn ascii_text(alloc: Global, text: &str) -> Result<Text, OutOfMemory>
+    requires { IsTrue (is_ascii_text text.now) }
+    ensures { IfOk result (λ made. made ≡ text.now) }
+{
+    let mut made = Text::new(alloc);
+    made.push_ascii(text)?;
+    Ok(made)
+}
+
+/// What stands at a key that must be there. Keys here and below are in ASCII.
+#[tactic(auto, unfolding(crate::specs::Reading::needed))]
+pub fn needed<'a>(alloc: Global, fields: &'a Pairs<Doc>, key: &str) -> Result<&'a Doc, ModelFault>
+    requires { IsTrue (is_ascii_text key.now) }
+    ensures { Gives (λ doc. doc.now) (needed key.now fields.now) result }
+{
+    match fields.get(key) {
+        Some(doc) => Ok(doc),
+        None => Err(missing(alloc, key)),
+    }
+}
+
+/// The object at a key.
+#[tactic(auto, unfolding(crate::specs::Reading::object_at))]
+pub fn object_at<'a>(
+    alloc: Global,
+    fields: &'a Pairs<Doc>,
+    key: &str,
+) -> Result<&'a Pairs<Doc>, ModelFault>
+    requires { IsTrue (is_ascii_text key.now) }
+    ensures { Gives (λ pairs. pairs.now) (object_at key.now fields.now) result }
+{
+    let doc = needed(alloc, fields, key)?;
+    match object(alloc, doc) {
+        Ok(pairs) => Ok(pairs),
+        Err(fault) => Err(move_below(alloc, key, fault)),
+    }
+}
+
+/// The text at a key.
+#[tactic(auto, unfolding(crate::specs::Reading::text_at))]
+pub fn text_at<'a>(alloc: Global, fields: &'a Pairs<Doc>, key: &str) -> Result<&'a Text, ModelFault>
+    requires { IsTrue (is_ascii_text key.now) }
+    ensures { Gives (λ text. text.now) (text_at key.now fields.now) result }
+{
+    let doc = needed(alloc, fields, key)?;
+    match text(alloc, doc) {
+        Ok(text) => Ok(text),
+        Err(fault) => Err(move_below(alloc, key, fault)),
+    }
+}
+
+/// The list at a key.
+#[tactic(auto, unfolding(crate::specs::Reading::items_at))]
+pub fn items_at<'a>(
+    alloc: Global,
+    fields: &'a Pairs<Doc>,
+    key: &str,
+) -> Result<&'a List<Doc>, ModelFault>
+    requires { IsTrue (is_ascii_text key.now) }
+    ensures { Gives (λ items. items.now) (items_at key.now fields.now) result }
+{
+    let doc = needed(alloc, fields, key)?;
+    match items(alloc, doc) {
+        Ok(items) => Ok(items),
+        Err(fault) => Err(move_below(alloc, key, fault)),
+    }
+}
+
+/// The text at a key, where there is one.
+#[tactic(auto, unfolding(crate::specs::Reading::maybe_text))]
+pub fn maybe_text<'a>(
+    alloc: Global,
+    fields: &'a Pairs<Doc>,
+    key: &str,
+) -> Result<Option<&'a Text>, ModelFault>
+    requires { IsTrue (is_ascii_text key.now) }
+    ensures { Gives option_copied (maybe_text key.now fields.now) result }
+{
+    let Some(doc) = fields.get(key) else {
+        return Ok(None);
+    };
+    match text(alloc, doc) {
+        Ok(text) => Ok(Some(text)),
+        Err(fault) => Err(move_below(alloc, key, fault)),
+    }
+}
+
+/// The object at a key, where there is one.
+#[tactic(auto, unfolding(crate::specs::Reading::maybe_object))]
+pub fn maybe_object<'a>(
+    alloc: Global,
+    fields: &'a Pairs<Doc>,
+    key: &str,
+) -> Result<Option<&'a Pairs<Doc>>, ModelFault>
+    requires { IsTrue (is_ascii_text key.now) }
+    ensures { Gives option_copied (maybe_object key.now fields.now) result }
+{
+    let Some(doc) = fields.get(key) else {
+        return Ok(None);
+    };
+    match object(alloc, doc) {
+        Ok(pairs) => Ok(Some(pairs)),
+        Err(fault) => Err(move_below(alloc, key, fault)),
+    }
+}
+
+/// The flag at a key: false where nothing stands there.
+#[tactic(auto, unfolding(crate::specs::Reading::flag_at))]
+pub fn flag_at(alloc: Global, fields: &Pairs<Doc>, key: &str) -> Result<bool, ModelFault>
+    requires { IsTrue (is_ascii_text key.now) }
+    ensures { Gives (λ flag. flag) (flag_at key.now fields.now) result }
+{
+    let Some(doc) = fields.get(key) else {
+        return Ok(false);
+    };
+    match flag(alloc, doc) {
+        Ok(flag) => Ok(flag),
+        Err(fault) => Err(move_below(alloc, key, fault)),
+    }
+}
+
+/// The texts of the list at a key: none where nothing stands there.
+#[tactic(auto, unfolding(crate::specs::Reading::texts_at))]
+pub fn texts_at(alloc: Global, fields: &Pairs<Doc>, key: &str) -> Result<List<Text>, ModelFault>
+    requires { IsTrue (is_ascii_text key.now) }
+    ensures { Gives (λ texts. texts) (texts_at key.now fields.now) result }
+{
+    let Some(doc) = fields.get(key) else {
+        return Ok(List::new(alloc));
+    };
+    match texts(alloc, doc) {
+        Ok(texts) => Ok(texts),
+        Err(fault) => Err(move_below(alloc, key, fault)),
+    }
+}
+
+/// The texts of the list at a key, where something stands there.
+#[tactic(auto, unfolding(crate::specs::Reading::maybe_texts))]
+pub fn maybe_texts(
+    alloc: Global,
+    fields: &Pairs<Doc>,
+    key: &str,
+) -> Result<Option<List<Text>>, ModelFault>
+    requires { IsTrue (is_ascii_text key.now) }
+    ensures { Gives (λ texts. texts) (maybe_texts key.now fields.now) result }
+{
+    let Some(doc) = fields.get(key) else {
+        return Ok(None);
+    };
+    match texts(alloc, doc) {
+        Ok(texts) => Ok(Some(texts)),
+        Err(fault) => Err(move_below(alloc, key, fault)),
+    }
+}
+
+/// A list of texts.
+#[tactic(auto, unfolding(crate::specs::Reading::texts_of))]
+pub fn texts(alloc: Global, doc: &Doc) -> Result<List<Text>, ModelFault>
+    ensures { Gives (λ texts. texts) (texts_of doc.now) result }
+{
+    let items = items(alloc, doc)?;
+    copied_texts(alloc, items.as_slice())
+}
+
+fn copied_texts(alloc: Global, items: &[Doc]) -> Result<List<Text>, ModelFault>
+    ensures { Gives (λ texts. texts) (each_from text_of 0 items.now) result }
+{
+    let mut texts = List::new(alloc);
+    for (at, item) in items.iter().enumerate() {
+        match text(alloc, item) {
+            Ok(text) => texts.push(text.copy(alloc)?)?,
+            Err(fault) => return Err(move_to(alloc, at, fault)),
+        }
+    }
+    Ok(texts)
+}
+
+/// A fault of the item at a position, as a fault of the list.
+pub fn move_to(alloc: Global, at: usize, fault: ModelFault) -> ModelFault
+    ensures { IsFault result (moved (decimal at) fault) }
+{
+    match format!(in alloc; "{at}") {
+        Ok(key) => move_below(alloc, key.as_str(), fault),
+        Err(_) => ModelFault::OutOfMemory,
+    }
+}
+
+/// An equal text, where there is one.
+pub fn copied(alloc: Global, text: Option<&Text>) -> Result<Option<Text>, OutOfMemory>
+    ensures { IfOk result (λ made. made ≡ option_copied text.entry) }
+{
+    match text {
+        Some(text) => Ok(Some(text.copy(alloc)?)),
+        None => Ok(None),
+    }
+}
+
+/// Whether true stands at a key.
+#[tactic(auto, unfolding(crate::specs::Reading::is_true_at))]
+pub fn is_true_at(fields: &Pairs<Doc>, key: &str) -> bool
+    requires { IsTrue (is_ascii_text key.now) }
+    ensures { result ≡ is_true_at key.now fields.now }
+{
+    matches!(fields.get(key), Some(Doc::Flag(true)))
+}
+
+/// The fault of a needed key of an object that isn't there: its place is the one that it would
+/// have.
+pub fn missing_below(alloc: Global, object: &str, key: &str) -> ModelFault
+    requires object { IsTrue (is_ascii_text object.now) }
+    requires key { IsTrue (is_ascii_text key.now) }
+    ensures { IsFault result (fault.Missing (below object.now key.now)) }
+{
+    move_below(alloc, object, missing(alloc, key))
+}

@@ -1,0 +1,326 @@
+ghost use Rattle.std.specs.Prelude.{◌≡◌, IsTrue};
+ghost use Rattle.std.specs.Option.{option_copied};
+ghost use Rattle.std.specs.Str.{chars};
+ghost use Rattle.json_doc.specs.Ascii.{is_ascii_text};
+ghost use Rattle.model_files.specs.Faults.{each, each_from, Gives};
+ghost use Rattle.model_files.specs.Waiters.{whole_number, whole_between, number_at, state_named, state_of, matcher_named, matcher_of, needs_query, argument_of, delay_of, tries_of, acceptor_of, acceptors_of, row_of, waiters_of, row_named};
+
+use crate::ModelFault;
+use crate::fault::move_below;
+use crate::names::command_name;
+use crate::reading::{
+    copied, items_at, maybe_text, missing, move_to, needed, object, object_at, text_at, wrong,
+};
+use json_doc::{Decimal, Doc, List, Pair, Pairs, Text, copy};
+use std::alloc::Global;
+use std::marker::Model;
+
+/// What a waiter's acceptor says of a reply that it matches.
+#[derive(Clone, Copy, Debug, PartialEq, Eq)]
+pub enum State {
+    Success,
+    Failure,
+    Retry,
+}
+
+/// What an acceptor looks at.
+#[derive(Clone, Copy, Debug, PartialEq, Eq)]
+pub enum Matcher {
+    /// The value of a query on the reply.
+    Path,
+    /// All items of such a value.
+    PathAll,
+    /// Any item of such a value.
+    PathAny,
+    /// The status of the reply.
+    Status,
+    /// The code of an error.
+    Error,
+}
+
+/// A rule of a waiter.
+#[derive(Debug, Drop)]
+pub struct Acceptor {
+    pub state: State,
+    pub matcher: Matcher,
+    /// The query of a matcher of paths.
+    pub argument: Option<Text>,
+    pub expected: Doc,
+}
+
+/// A waiter: a row of botocore's `waiters-2.json`.
+#[derive(Debug, Drop)]
+pub struct WaiterRow {
+    pub name: Text,
+    /// The name that commands use.
+    pub command: Text,
+    /// The name of the operation that it calls.
+    pub operation: Text,
+    /// How many seconds lie between two calls.
+    pub delay: u32,
+    /// How many calls it makes at most.
+    pub tries: u32,
+    pub acceptors: List<Acceptor>,
+}
+
+/// The waiters of a service.
+#[derive(Debug, Drop)]
+pub struct Waiters {
+    rows: List<WaiterRow>,
+}
+
+impl Model for Waiters {
+    ghost use Rattle.std.specs.Prelude.{List as Seq};
+    ghost use Rattle.model_files.specs.declared.waiters.WaiterRow.{WaiterRow as Row};
+    ghost use Rattle.json_doc.specs.contracts.doc.Doc as doc;
+    ghost use Rattle.std.specs.Coded.{codes};
+
+    ghost Value = { Seq Row };
+
+    ghost coded = { Prim.hlevel (codes, doc.the_row.coded) };
+
+    ghost view = { λ waiters. waiters.rows };
+}
+
+impl Waiters {
+    /// Reads the waiters from their document.
+    #[tactic(auto, unfolding(crate::specs::Waiters::waiters_of))]
+    pub fn read(alloc: Global, doc: &Doc) -> Result<Waiters, ModelFault>
+        ensures { Gives (λ rows. rows) (waiters_of doc.now) result }
+    {
+        let fields = object(alloc, doc)?;
+        let pairs = object_at(alloc, fields, "waiters")?;
+        match read_rows(alloc, pairs) {
+            Ok(rows) => Ok(Waiters { rows }),
+            Err(fault) => Err(move_below(alloc, "waiters", fault)),
+        }
+    }
+
+    /// The first waiter with a command name.
+    pub fn row(&self, command: &Text) -> Option<&WaiterRow>
+        ensures { option_copied result ≡ row_named command.now self.now }
+    {
+        self.find(command.as_str())
+    }
+
+    fn find(&self, command: &str) -> Option<&WaiterRow>
+        ensures { option_copied result ≡ row_named (chars command.now) self.now }
+    {
+        for row in self.rows.as_slice() {
+            if row.command.is(command) {
+                return Some(row);
+            }
+        }
+        None
+    }
+}
+
+fn read_rows(alloc: Global, pairs: &Pairs<Doc>) -> Result<List<WaiterRow>, ModelFault>
+    ensures { Gives (λ rows. rows) (each row_of pairs.now) result }
+{
+    let mut rows = List::new(alloc);
+    for pair in pairs.as_slice() {
+        match read_row(alloc, pair) {
+            Ok(row) => rows.push(row)?,
+            Err(fault) => return Err(move_below(alloc, pair.key.as_str(), fault)),
+        }
+    }
+    Ok(rows)
+}
+
+#[tactic(auto, unfolding(crate::specs::Waiters::row_of))]
+fn read_row(alloc: Global, pair: &Pair<Doc>) -> Result<WaiterRow, ModelFault>
+    ensures { Gives (λ row. row) (row_of pair.now) result }
+{
+    let fields = object(alloc, &pair.value)?;
+    let operation = text_at(alloc, fields, "operation")?;
+    let delay = read_delay(alloc, fields)?;
+    let tries = read_tries(alloc, fields)?;
+    let acceptors = acceptors_at(alloc, fields)?;
+    Ok(WaiterRow {
+        name: pair.key.copy(alloc)?,
+        command: command_name(alloc, &pair.key)?,
+        operation: operation.copy(alloc)?,
+        delay,
+        tries,
+        acceptors,
+    })
+}
+
+#[tactic(auto, unfolding(crate::specs::Waiters::delay_of))]
+fn read_delay(alloc: Global, fields: &Pairs<Doc>) -> Result<u32, ModelFault>
+    ensures { Gives (λ delay. delay) (delay_of fields.now) result }
+{
+    number_at(alloc, fields, "delay", 0, 86_400)
+}
+
+#[tactic(auto, unfolding(crate::specs::Waiters::tries_of))]
+fn read_tries(alloc: Global, fields: &Pairs<Doc>) -> Result<u32, ModelFault>
+    ensures { Gives (λ tries. tries) (tries_of fields.now) result }
+{
+    number_at(alloc, fields, "maxAttempts", 1, 100_000)
+}
+
+#[tactic(auto, unfolding(crate::specs::Waiters::acceptors_of))]
+fn acceptors_at(alloc: Global, fields: &Pairs<Doc>) -> Result<List<Acceptor>, ModelFault>
+    ensures { Gives (λ acceptors. acceptors) (acceptors_of fields.now) result }
+{
+    let items = items_at(alloc, fields, "acceptors")?;
+    match read_acceptors(alloc, items.as_slice()) {
+        Ok(acceptors) => Ok(acceptors),
+        Err(fault) => Err(move_below(alloc, "acceptors", fault)),
+    }
+}
+
+/// The whole number at a key, from `least` to `most`.
+#[tactic(auto, unfolding(crate::specs::Waiters::number_at))]
+fn number_at(
+    alloc: Global,
+    fields: &Pairs<Doc>,
+    key: &str,
+    least: u32,
+    most: u32,
+) -> Result<u32, ModelFault>
+    requires { IsTrue (is_ascii_text key.now) }
+    ensures { Gives (λ number. number) (number_at key.now least most fields.now) result }
+{
+    let doc = needed(alloc, fields, key)?;
+    match whole_between(doc, least, most) {
+        Some(number) => Ok(number),
+        None => Err(wrong(alloc, key)),
+    }
+}
+
+/// A whole number from `least` to `most`.
+#[tactic(auto, unfolding(crate::specs::Waiters::whole_between))]
+fn whole_between(doc: &Doc, least: u32, most: u32) -> Option<u32>
+    ensures { result ≡ whole_between least most doc.now }
+{
+    match doc {
+        Doc::Number(number) => whole_in(number, least, most),
+        _ => None,
+    }
+}
+
+/// A decimal as a whole number from `least` to `most`, where it is one.
+fn whole_in(number: &Decimal, least: u32, most: u32) -> Option<u32>
+    ensures { result ≡ whole_number least most number.now }
+{
+    if number.scale != 0 || number.is_negative {
+        return None;
+    }
+    if number.magnitude < u128::from(least) || u128::from(most) < number.magnitude {
+        return None;
+    }
+    Some(number.magnitude as u32)
+}
+
+fn read_acceptors(alloc: Global, items: &[Doc]) -> Result<List<Acceptor>, ModelFault>
+    ensures { Gives (λ acceptors. acceptors) (each_from acceptor_of 0 items.now) result }
+{
+    let mut acceptors = List::new(alloc);
+    for (at, item) in items.iter().enumerate() {
+        match read_acceptor(alloc, item) {
+            Ok(acceptor) => acceptors.push(acceptor)?,
+            Err(fault) => return Err(move_to(alloc, at, fault)),
+        }
+    }
+    Ok(acceptors)
+}
+
+#[tactic(auto, unfolding(crate::specs::Waiters::acceptor_of))]
+fn read_acceptor(alloc: Global, doc: &Doc) -> Result<Acceptor, ModelFault>
+    ensures { Gives (λ acceptor. acceptor) (acceptor_of doc.now) result }
+{
+    let fields = object(alloc, doc)?;
+    let state = read_state(alloc, fields)?;
+    let matcher = read_matcher(alloc, fields)?;
+    let argument = read_argument(alloc, fields, matcher)?;
+    let expected = needed(alloc, fields, "expected")?;
+    Ok(Acceptor {
+        state,
+        matcher,
+        argument: copied(alloc, argument)?,
+        expected: copy(alloc, expected)?,
+    })
+}
+
+#[tactic(auto, unfolding(crate::specs::Waiters::state_of))]
+fn read_state(alloc: Global, fields: &Pairs<Doc>) -> Result<State, ModelFault>
+    ensures { Gives (λ state. state) (state_of fields.now) result }
+{
+    let name = text_at(alloc, fields, "state")?;
+    match state_named(name) {
+        Some(state) => Ok(state),
+        None => Err(wrong(alloc, "state")),
+    }
+}
+
+fn state_named(name: &Text) -> Option<State>
+    ensures { result ≡ state_named name.now }
+{
+    if name.is("success") {
+        return Some(State::Success);
+    }
+    if name.is("failure") {
+        return Some(State::Failure);
+    }
+    if name.is("retry") {
+        return Some(State::Retry);
+    }
+    None
+}
+
+#[tactic(auto, unfolding(crate::specs::Waiters::matcher_of))]
+fn read_matcher(alloc: Global, fields: &Pairs<Doc>) -> Result<Matcher, ModelFault>
+    ensures { Gives (λ matcher. matcher) (matcher_of fields.now) result }
+{
+    let name = text_at(alloc, fields, "matcher")?;
+    match matcher_named(name) {
+        Some(matcher) => Ok(matcher),
+        None => Err(wrong(alloc, "matcher")),
+    }
+}
+
+fn matcher_named(name: &Text) -> Option<Matcher>
+    ensures { result ≡ matcher_named name.now }
+{
+    if name.is("path") {
+        return Some(Matcher::Path);
+    }
+    if name.is("pathAll") {
+        return Some(Matcher::PathAll);
+    }
+    if name.is("pathAny") {
+        return Some(Matcher::PathAny);
+    }
+    if name.is("status") {
+        return Some(Matcher::Status);
+    }
+    if name.is("error") {
+        return Some(Matcher::Error);
+    }
+    None
+}
+
+/// The query, which a matcher of paths needs.
+#[tactic(auto, unfolding(crate::specs::Waiters::argument_of))]
+fn read_argument(
+    alloc: Global,
+    fields: &Pairs<Doc>,
+    matcher: Matcher,
+) -> Result<Option<&Text>, ModelFault>
+    ensures { Gives option_copied (argument_of matcher fields.now) result }
+{
+    let argument = maybe_text(alloc, fields, "argument")?;
+    if argument.is_none() && needs_query(matcher) {
+        return Err(missing(alloc, "argument"));
+    }
+    Ok(argument)
+}
+
+fn needs_query(matcher: Matcher) -> bool
+    ensures { result ≡ needs_query matcher }
+{
+    matches!(matcher, Matcher::Path | Matcher::PathAll | Matcher::PathAny)
+}

@@ -1,0 +1,15 @@
+pub mod Among
+pub mod Clashes
+pub mod Describing
+pub mod Earlier
+pub mod Labelling
+pub mod Leading
+pub mod Noted
+pub mod Numbers
+pub mod Plus
+pub mod Reading
+pub mod Refusals
+pub mod Sequences
+pub mod Soundness
+pub mod Steps
+pub mod Whole

@@ -1,0 +1,12 @@
+pub mod Admission
+pub mod Arguments
+pub mod Choices
+pub mod Labels
+pub mod Locations
+pub mod Members
+pub mod Metadata
+pub mod Models
+pub mod Numbering
+pub mod Operations
+pub mod Reach
+pub mod Shapes

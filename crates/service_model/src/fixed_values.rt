@@ -1,0 +1,69 @@
+//! The parameters of endpoint rules that operations set.
+ghost use Rattle.std.specs.Prelude.{◌≡◌};
+ghost use Rattle.json_doc.specs.declared.doc.Doc.TheViews.{out-Doc};
+ghost use Rattle.model_files.specs.Faults.{each, Gives};
+ghost use Rattle.service_model.specs.Operations.{is_fixed, fixed_value, fixed_in, fixed_params_of};
+
+use json_doc::{Doc, List, Pair, Pairs, Text, copy};
+use model_files::{ModelFault, move_below, needed, object, wrong};
+use std::alloc::Global;
+
+/// The parameters of endpoint rules that an operation sets.
+#[tactic(auto, unfolding(crate::specs::Operations::fixed_params_of))]
+pub fn read_fixed_params(
+    alloc: Global,
+    fields: &Pairs<Doc>,
+) -> Result<List<(Text, Doc)>, ModelFault>
+    ensures { Gives (λ x. x) (fixed_params_of fields.now) result }
+{
+    let Some(doc) = fields.get("staticContextParams") else {
+        return Ok(List::new(alloc));
+    };
+    match fixed_params(alloc, doc) {
+        Ok(params) => Ok(params),
+        Err(fault) => Err(move_below(alloc, "staticContextParams", fault)),
+    }
+}
+
+#[tactic(auto, unfolding(crate::specs::Operations::fixed_in))]
+fn fixed_params(alloc: Global, doc: &Doc) -> Result<List<(Text, Doc)>, ModelFault>
+    ensures { Gives (λ x. x) (fixed_in doc.now) result }
+{
+    let pairs = object(alloc, doc)?;
+    fixed_pairs(alloc, pairs)
+}
+
+fn fixed_pairs(alloc: Global, pairs: &Pairs<Doc>) -> Result<List<(Text, Doc)>, ModelFault>
+    ensures { Gives (λ x. x) (each fixed_value pairs.now) result }
+{
+    let mut params = List::new(alloc);
+    for pair in pairs.as_slice() {
+        match fixed_value(alloc, pair) {
+            Ok(param) => params.push(param)?,
+            Err(fault) => return Err(move_below(alloc, pair.key.as_str(), fault)),
+        }
+    }
+    Ok(params)
+}
+
+/// The value of a parameter: a text or a flag.
+#[tactic(auto, unfolding(crate::specs::Operations::fixed_value))]
+fn fixed_value(alloc: Global, pair: &Pair<Doc>) -> Result<(Text, Doc), ModelFault>
+    ensures { Gives (λ x. x) (fixed_value pair.now) result }
+{
+    let fields = object(alloc, &pair.value)?;
+    let value = needed(alloc, fields, "value")?;
+    if !is_fixed(value) {
+        return Err(wrong(alloc, "value"));
+    }
+    Ok((pair.key.copy(alloc)?, copy(alloc, value)?))
+}
+
+fn is_fixed(value: &Doc) -> bool
+    ensures { result ≡ is_fixed (out-Doc value.now) }
+{
+    match value {
+        Doc::Str(_) | Doc::Flag(_) => true,
+        _ => false,
+    }
+}

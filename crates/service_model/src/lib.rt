@@ -1,0 +1,33 @@
+//! The models of services, as botocore ships them: `service-2.json`, `paginators-1.json` and
+//! `waiters-2.json`, read with every reference resolved, or refused with the place of the first
+//! fault.
+#![tactic(auto)]
+
+mod admission;
+mod arguments;
+mod choices;
+mod fixed_values;
+mod labelled;
+mod labels;
+mod locations;
+mod members;
+mod metadata;
+mod model;
+mod numbering;
+mod operation;
+mod operations;
+mod reach;
+mod shape;
+mod shapes;
+mod signing;
+
+pub use metadata::{Metadata, Protocol};
+pub use model::Model;
+pub use model_files::{
+    Acceptor, Matcher, ModelFault, PagerRow, Paginators, State, WaiterRow, Waiters, command_name,
+};
+pub use operation::{Operation, Refusal};
+pub use shape::{Kind, Location, Member, Shape, ShapeId, TimeForm};
+
+#[cfg(test)]
+mod tests;

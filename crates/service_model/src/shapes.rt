@@ -1,0 +1,346 @@
+//! The shapes of a model.
+ghost use Rattle.std.specs.Prelude.{◌≡◌, ◌<◌, ◌^◌, ℕ, List as Seq, IsTrue, IfOk, bytes_eq, length};
+ghost use Rattle.std.specs.List.{list_any};
+ghost use Rattle.json_doc.specs.Ascii.{is_ascii_text};
+ghost use Rattle.model_files.specs.Faults.{each_from, Gives};
+ghost use Rattle.service_model.specs.Shapes.{kind_of_shape, names_member, names_in, name_among, member_list, required_of, payload_of, structure_of, structure_if, part_at, key_at, key_if, item_if, whole, least_of, shape_of, shapes_of};
+
+use crate::choices::kind_named;
+use crate::members::{read_members, read_time};
+use crate::numbering::{Names, reference_in, string_in};
+use crate::{Kind, Member, Shape, ShapeId};
+use indexmap::IndexSet;
+use json_doc::{Decimal, Doc, List, OutOfMemory, Pair, Pairs, Text};
+use model_files::{
+    ModelFault, flag_at, items, maybe_text, missing_below, move_below, move_to, object, object_at,
+    text, text_at, wrong, wrong_kind,
+};
+use std::alloc::Global;
+
+/// Reads the shapes in their order.
+pub fn read_shapes(
+    alloc: Global,
+    names: &Names,
+    pairs: &Pairs<Doc>,
+) -> Result<List<Shape>, ModelFault>
+    requires { length names.now.entries < 2 ^ 32 }
+    ensures { Gives (λ x. x) (shapes_of names.now.entries pairs.now) result }
+{
+    let mut shapes = Vec::with_capacity(alloc, pairs.len())?;
+    for pair in pairs.as_slice() {
+        match read_shape(alloc, names, pair) {
+            Ok(shape) => shapes.push(shape)?,
+            Err(fault) => return Err(move_below(alloc, pair.key.as_str(), fault)),
+        }
+    }
+    Ok(List::from_vec(shapes))
+}
+
+#[tactic(auto, unfolding(crate::specs::Shapes::shape_of))]
+fn read_shape(alloc: Global, names: &Names, pair: &Pair<Doc>) -> Result<Shape, ModelFault>
+    requires { length names.now.entries < 2 ^ 32 }
+    ensures { Gives (λ x. x) (shape_of names.now.entries pair.now) result }
+{
+    let fields = object(alloc, &pair.value)?;
+    let kind = read_kind(alloc, fields)?;
+    let structure = read_structure_of(alloc, names, fields, kind)?;
+    let key = read_key_of(alloc, names, fields, kind)?;
+    let item = read_item_of(alloc, names, fields, kind)?;
+    let time = read_time(alloc, fields)?;
+    Ok(Shape {
+        name: pair.key.copy(alloc)?,
+        kind,
+        members: structure.members,
+        required: structure.required,
+        payload: structure.payload,
+        min: least(fields),
+        item,
+        key,
+        is_union: structure.is_union,
+        document: structure.document,
+        exception: structure.exception,
+        events: structure.events,
+        time,
+    })
+}
+
+#[tactic(auto, unfolding(crate::specs::Shapes::kind_of_shape))]
+fn read_kind(alloc: Global, fields: &Pairs<Doc>) -> Result<Kind, ModelFault>
+    ensures { Gives (λ x. x) (kind_of_shape fields.now) result }
+{
+    let name = text_at(alloc, fields, "type")?;
+    match kind_named(name) {
+        Some(kind) => Ok(kind),
+        None => Err(wrong(alloc, "type")),
+    }
+}
+
+/// What only structures have; a shape of another kind has nothing of it.
+#[derive(Drop)]
+struct Structure {
+    members: List<Member>,
+    required: List<Text>,
+    payload: Option<Text>,
+    is_union: bool,
+    document: bool,
+    exception: bool,
+    events: bool,
+}
+
+#[tactic(auto, unfolding(crate::specs::Shapes::structure_if))]
+fn read_structure_of(
+    alloc: Global,
+    names: &Names,
+    fields: &Pairs<Doc>,
+    kind: Kind,
+) -> Result<Structure, ModelFault>
+    requires { length names.now.entries < 2 ^ 32 }
+    ensures { Gives (λ x. x) (structure_if kind names.now.entries fields.now) result }
+{
+    match kind {
+        Kind::Structure => read_structure(alloc, names, fields),
+        _ => Ok(Structure {
+            members: List::new(alloc),
+            required: List::new(alloc),
+            payload: None,
+            is_union: false,
+            document: false,
+            exception: false,
+            events: false,
+        }),
+    }
+}
+
+#[tactic(auto, unfolding(crate::specs::Shapes::structure_of))]
+fn read_structure(
+    alloc: Global,
+    names: &Names,
+    fields: &Pairs<Doc>,
+) -> Result<Structure, ModelFault>
+    requires { length names.now.entries < 2 ^ 32 }
+    ensures { Gives (λ x. x) (structure_of names.now.entries fields.now) result }
+{
+    let pairs = object_at(alloc, fields, "members")?;
+    let members = match read_members(alloc, names, pairs) {
+        Ok(members) => members,
+        Err(fault) => return Err(move_below(alloc, "members", fault)),
+    };
+    let required = read_required(alloc, fields, &members)?;
+    let payload = read_payload(alloc, fields, &members)?;
+    let is_union = flag_at(alloc, fields, "union")?;
+    let document = flag_at(alloc, fields, "document")?;
+    let exception = flag_at(alloc, fields, "exception")?;
+    let events = flag_at(alloc, fields, "eventstream")?;
+    Ok(Structure {
+        members,
+        required,
+        payload,
+        is_union,
+        document,
+        exception,
+        events,
+    })
+}
+
+/// The names of the members that a value must have; each names a member.
+#[tactic(auto, unfolding(crate::specs::Shapes::required_of))]
+fn read_required(
+    alloc: Global,
+    fields: &Pairs<Doc>,
+    members: &List<Member>,
+) -> Result<List<Text>, ModelFault>
+    ensures { Gives (λ x. x) (required_of members.now fields.now) result }
+{
+    let Some(doc) = fields.get("required") else {
+        return Ok(List::new(alloc));
+    };
+    match member_list(alloc, doc, members) {
+        Ok(required) => Ok(required),
+        Err(fault) => Err(move_below(alloc, "required", fault)),
+    }
+}
+
+/// A list of names of members.
+#[tactic(auto, unfolding(crate::specs::Shapes::member_list))]
+fn member_list(alloc: Global, doc: &Doc, members: &List<Member>) -> Result<List<Text>, ModelFault>
+    ensures { Gives (λ x. x) (member_list members.now doc.now) result }
+{
+    let items = items(alloc, doc)?;
+    let names = member_names(alloc, members.as_slice())?;
+    names_listed(alloc, items.as_slice(), &names)
+}
+
+/// The texts of a list, each of which is one of the names.
+fn names_listed(
+    alloc: Global,
+    items: &[Doc],
+    names: &IndexSet<Text>,
+) -> Result<List<Text>, ModelFault>
+    ensures { Gives (λ x. x) (each_from (name_among names.now.keys) 0 items.now) result }
+{
+    let mut listed = List::new(alloc);
+    for (at, item) in items.iter().enumerate() {
+        match name_among(alloc, item, names) {
+            Ok(name) => listed.push(name.copy(alloc)?)?,
+            Err(fault) => return Err(move_to(alloc, at, fault)),
+        }
+    }
+    Ok(listed)
+}
+
+/// A text that is one of the names.
+#[tactic(auto, unfolding(crate::specs::Shapes::name_among))]
+fn name_among<'a>(
+    alloc: Global,
+    doc: &'a Doc,
+    names: &IndexSet<Text>,
+) -> Result<&'a Text, ModelFault>
+    ensures { Gives (λ name. name.now) (name_among names.now.keys doc.now) result }
+{
+    let name = text(alloc, doc)?;
+    if names.contains(name) {
+        Ok(name)
+    } else {
+        Err(wrong_kind(alloc))
+    }
+}
+
+/// The names of members, to be looked up.
+fn member_names(alloc: Global, members: &[Member]) -> Result<IndexSet<Text>, OutOfMemory>
+    ensures { IfOk result (λ names. (name : Seq ℕ) →
+        list_any (bytes_eq name) names.keys ≡ list_any (bytes_eq name) (names_in members.now)) }
+{
+    let mut names = IndexSet::with_capacity(alloc, members.len())?;
+    for member in members {
+        names.insert(member.name.copy(alloc)?)?;
+    }
+    Ok(names)
+}
+
+/// The name of the member that is the whole body.
+#[tactic(auto, unfolding(crate::specs::Shapes::payload_of))]
+fn read_payload(
+    alloc: Global,
+    fields: &Pairs<Doc>,
+    members: &List<Member>,
+) -> Result<Option<Text>, ModelFault>
+    ensures { Gives (λ x. x) (payload_of members.now fields.now) result }
+{
+    let Some(name) = maybe_text(alloc, fields, "payload")? else {
+        return Ok(None);
+    };
+    if has_member(members.as_slice(), name) {
+        Ok(Some(name.copy(alloc)?))
+    } else {
+        Err(wrong(alloc, "payload"))
+    }
+}
+
+/// Whether a member has this name.
+fn has_member(members: &[Member], name: &Text) -> bool
+    ensures { result ≡ names_member members.now name.now }
+{
+    for member in members {
+        if member.name == *name {
+            return true;
+        }
+    }
+    false
+}
+
+/// What a list holds, or what stands at the keys of a map.
+#[tactic(auto, unfolding(crate::specs::Shapes::item_if))]
+fn read_item_of(
+    alloc: Global,
+    names: &Names,
+    fields: &Pairs<Doc>,
+    kind: Kind,
+) -> Result<Option<ShapeId>, ModelFault>
+    requires { length names.now.entries < 2 ^ 32 }
+    ensures { Gives (λ x. x) (item_if kind names.now.entries fields.now) result }
+{
+    match kind {
+        Kind::List => Ok(Some(read_part(alloc, names, fields, "member")?)),
+        Kind::Map => Ok(Some(read_part(alloc, names, fields, "value")?)),
+        _ => Ok(None),
+    }
+}
+
+/// What the keys of a map are.
+#[tactic(auto, unfolding(crate::specs::Shapes::key_if))]
+fn read_key_of(
+    alloc: Global,
+    names: &Names,
+    fields: &Pairs<Doc>,
+    kind: Kind,
+) -> Result<Option<ShapeId>, ModelFault>
+    requires { length names.now.entries < 2 ^ 32 }
+    ensures { Gives (λ x. x) (key_if kind names.now.entries fields.now) result }
+{
+    match kind {
+        Kind::Map => Ok(Some(read_key(alloc, names, fields)?)),
+        _ => Ok(None),
+    }
+}
+
+#[tactic(auto, unfolding(crate::specs::Shapes::part_at))]
+fn read_part(
+    alloc: Global,
+    names: &Names,
+    fields: &Pairs<Doc>,
+    key: &str,
+) -> Result<ShapeId, ModelFault>
+    requires few { length names.now.entries < 2 ^ 32 }
+    requires ascii { IsTrue (is_ascii_text key.now) }
+    ensures { Gives (λ x. x) (part_at names.now.entries key.now fields.now) result }
+{
+    let Some(doc) = fields.get(key) else {
+        return Err(missing_below(alloc, key, "shape"));
+    };
+    match reference_in(alloc, names, doc) {
+        Ok(id) => Ok(id),
+        Err(fault) => Err(move_below(alloc, key, fault)),
+    }
+}
+
+/// Keys of maps are strings.
+#[tactic(auto, unfolding(crate::specs::Shapes::key_at))]
+fn read_key(alloc: Global, names: &Names, fields: &Pairs<Doc>) -> Result<ShapeId, ModelFault>
+    requires { length names.now.entries < 2 ^ 32 }
+    ensures { Gives (λ x. x) (key_at names.now.entries fields.now) result }
+{
+    let Some(doc) = fields.get("key") else {
+        return Err(missing_below(alloc, "key", "shape"));
+    };
+    match string_in(alloc, names, doc) {
+        Ok(id) => Ok(id),
+        Err(fault) => Err(move_below(alloc, "key", fault)),
+    }
+}
+
+/// The least length or value: a whole number in 64 bits, else it is ignored.
+#[tactic(auto, unfolding(crate::specs::Shapes::least_of))]
+fn least(fields: &Pairs<Doc>) -> Option<i64>
+    ensures { result ≡ least_of fields.now }
+{
+    match fields.get("min") {
+        Some(Doc::Number(number)) => whole(number),
+        _ => None,
+    }
+}
+
+/// A decimal as a number in 64 bits, where it is one.
+fn whole(number: &Decimal) -> Option<i64>
+    ensures { result ≡ whole number.now }
+{
+    if number.scale != 0 {
+        return None;
+    }
+    let magnitude = i128::try_from(number.magnitude).ok()?;
+    let value = if number.is_negative {
+        -magnitude
+    } else {
+        magnitude
+    };
+    i64::try_from(value).ok()
+}
