@@ -27,6 +27,12 @@ front_of_rest a rest first mid last p q =
       g.1 ∙ ap (λ w. w ++ take g.0 rest) e ∙ append_assoc x a (take g.0 rest) ∙ ap (λ front. x ++ front) (sym (take-append-add a rest g.0)),
     ))
 
+-- the first part, and then the rest
+pub put_then : (a rest : List ℕ) (first mid last : Option (List ℕ)) → Tells first mid (λ before after. after ≡ before ++ a)
+    → Tells mid last (λ before after. after ≡ before ++ rest) → Tells first last (λ before after. after ≡ before ++ (a ++ rest))
+put_then a rest first mid last p q =
+    tells_both (λ x y. y ≡ x ++ a) (λ x y. y ≡ x ++ rest) (λ x y. y ≡ x ++ (a ++ rest)) first mid last p q (λ x y z e f. f ∙ ap (λ w. w ++ rest) e ∙ append_assoc x a rest)
+
 -- what follows from an error
 pub on_err : {T E : Type 0} (P Q : Type 0) (result : Result T E) → OnErr result P → (P → Q) → OnErr result Q
 on_err P Q (Ok x) fact follows = tt

@@ -1,8 +1,12 @@
 pub mod Each
 pub mod Finds
 pub mod Ports
-pub mod Newest
-pub mod Service
+pub mod Orders
+pub mod Searches
+pub mod Versions
+pub mod OneDue
+pub mod OneModel
+pub mod Told
 pub mod Fronts
 pub mod Saying
 pub mod LinePlans

@@ -6,10 +6,12 @@ use Rattle.std.proofs.lemmas.Bool.{ltb-true, lt-ltb}
 use Rattle.json_doc.specs.Ascii.{is_ascii_text}
 use Rattle.aws_world.specs.declared.link.LinkFault.{LinkFault}
 use Rattle.aws_world.specs.declared.link.LinkFault.TheVariants.{Connect, Timeout, Broken}
+use Rattle.service_model.specs.declared.operation.Refusal.{Refusal}
+use Rattle.service_model.specs.declared.operation.Refusal.TheVariants.{Protocol, Events, Signature, Checksum, Discovery, JsonValue, BlobOutput, SameArgument}
 use Rattle.aws_world.specs.Told.{Tells, HasCause, Rose}
 use Rattle.aws_world.proofs.Told.{tells_weaker}
 use Rattle.aws_main.specs.Causes.{GainsFront}
-use Rattle.aws_main.specs.Messages.{Says, url_of, lost_start, lost_end, message}
+use Rattle.aws_main.specs.Messages.{Says, bad_model_around, lost_end, lost_start, message, refusal_name, url_of, usage_end, usage_start}
 
 -- a line without a fifth word has no URL
 pub no_url : (words : List (List ℕ)) → false ≡ nat_lt 4 (length words) → url_of words ≡ []
@@ -42,11 +44,46 @@ around_ascii before text after bytes p q e =
     ap (λ all. before ++ (all ++ after)) e ∙ ap (λ all. before ++ (encode_utf8_all text ++ all)) (sym (ascii_bytes after q))
     ∙ ap (λ all. all ++ (encode_utf8_all text ++ encode_utf8_all after)) (sym (ascii_bytes before p)) ∙ sym (around before text after)
 
--- what is written of a file's fault
-pub file_written : (path text : List ℕ) → text ≡ encode_utf8_all path
-    → (10 ∷ codes "Error reading ") ++ (text ++ 10 ∷ []) ≡ encode_utf8_all (message (codes "Error reading " ++ path))
-file_written path text e =
-    around_ascii (10 ∷ codes "Error reading ") path (10 ∷ []) text refl refl e ∙ ap (λ all. encode_utf8_all (10 ∷ all)) (sym (append_assoc (codes "Error reading ") path (10 ∷ [])))
+-- what is written of a message with a text at its end
+pub message_written : (start text bytes : List ℕ) → is_ascii_text (10 ∷ start) ≡ true → bytes ≡ encode_utf8_all text
+    → (10 ∷ start) ++ (bytes ++ 10 ∷ []) ≡ encode_utf8_all (message (start ++ text))
+message_written start text bytes p e =
+    around_ascii (10 ∷ start) text (10 ∷ []) bytes p refl e ∙ ap (λ all. encode_utf8_all (10 ∷ all)) (sym (append_assoc start text (10 ∷ [])))
+
+-- the reasons are in ASCII
+pub reason_written : (reason : Refusal) (bytes : List ℕ) → bytes ≡ refusal_name reason → bytes ≡ encode_utf8_all (refusal_name reason)
+reason_written Protocol bytes e = e ∙ sym (ascii_bytes _ refl)
+reason_written Events bytes e = e ∙ sym (ascii_bytes _ refl)
+reason_written Signature bytes e = e ∙ sym (ascii_bytes _ refl)
+reason_written Checksum bytes e = e ∙ sym (ascii_bytes _ refl)
+reason_written Discovery bytes e = e ∙ sym (ascii_bytes _ refl)
+reason_written JsonValue bytes e = e ∙ sym (ascii_bytes _ refl)
+reason_written BlobOutput bytes e = e ∙ sym (ascii_bytes _ refl)
+reason_written (SameArgument name) bytes e = e ∙ sym (ascii_bytes _ refl)
+
+-- what is written of a name that is in no model file
+pub usage_written : (name bytes : List ℕ) → bytes ≡ encode_utf8_all name → usage_start ++ (bytes ++ usage_end) ≡ encode_utf8_all (usage_start ++ (name ++ usage_end))
+usage_written name bytes e = around_ascii usage_start name usage_end bytes refl refl e
+
+-- a text between others, of which the one before it is in ASCII
+behind_ascii : (before text after bytes rest : List ℕ) → is_ascii_text before ≡ true → bytes ≡ encode_utf8_all text → rest ≡ encode_utf8_all after
+    → before ++ (bytes ++ rest) ≡ encode_utf8_all (before ++ (text ++ after))
+behind_ascii before text after bytes rest p e f =
+    ap (λ all. before ++ (all ++ rest)) e ∙ ap (λ all. before ++ (encode_utf8_all text ++ all)) f
+    ∙ ap (λ all. all ++ (encode_utf8_all text ++ encode_utf8_all after)) (sym (ascii_bytes before p)) ∙ sym (around before text after)
+
+-- five parts, with a line end behind the last
+five_parts : (a b c d e : List ℕ) → (a ++ (b ++ (c ++ d))) ++ e ≡ a ++ (b ++ (c ++ (d ++ e)))
+five_parts a b c d e =
+    append_assoc a (b ++ (c ++ d)) e ∙ ap (λ all. a ++ all) (append_assoc b (c ++ d) e) ∙ ap (λ all. a ++ (b ++ all)) (append_assoc c d e)
+
+-- what is written of a fault at a place of a model file
+pub bad_model_written : (file place file_bytes place_bytes : List ℕ) → file_bytes ≡ encode_utf8_all file → place_bytes ≡ encode_utf8_all place
+    → bad_model_around file_bytes place_bytes ≡ encode_utf8_all (message (codes "Invalid model " ++ (file ++ (codes ": " ++ place))))
+bad_model_written file place file_bytes place_bytes e f =
+    behind_ascii (10 ∷ codes "Invalid model ") file (codes ": " ++ (place ++ 10 ∷ [])) file_bytes (codes ": " ++ (place_bytes ++ 10 ∷ [])) refl e
+    (around_ascii (codes ": ") place (10 ∷ []) place_bytes refl refl f)
+    ∙ ap (λ all. encode_utf8_all (10 ∷ all)) (sym (five_parts (codes "Invalid model ") file (codes ": ") place (10 ∷ [])))
 
 start_ascii : (fault : LinkFault) → is_ascii_text (lost_start fault) ≡ true
 start_ascii Connect = refl

@@ -2,17 +2,18 @@
 use Rattle.std.specs.Prelude.{◌≡◌, ℕ, ◌≤◌, List, ◌++◌, take, Result, IfErr}
 use Rattle.aws_world.specs.Told.{Rose}
 use Rattle.aws_main.specs.declared.causes.Cause.{Cause}
-use Rattle.aws_main.specs.declared.causes.Cause.TheVariants.{Done, NotBuilt, FileFault, Lost, OutFault, OutOfMemory}
+use Rattle.aws_main.specs.declared.causes.Cause.TheVariants.{Done, NotBuilt, Usage, BadModel, NotAdmitted, FileFault, Lost, OutFault, OutOfMemory}
 use Rattle.aws_main.specs.declared.causes.Unbuilt.{Unbuilt}
 use Rattle.aws_main.specs.declared.causes.Unbuilt.TheVariants.{NotBuilt as pure_not_built, OutOfMemory as pure_no_memory}
 use Rattle.aws_main.specs.declared.causes.Unread.{Unread}
-use Rattle.aws_main.specs.declared.causes.Unread.TheVariants.{NotBuilt as read_not_built, FileFault as read_fault, OutOfMemory as read_no_memory}
+use Rattle.aws_main.specs.declared.causes.Unread.TheVariants.{NotBuilt as read_not_built, Usage as read_usage, BadModel as read_bad_model, NotAdmitted as read_not_admitted, FileFault as read_fault, OutOfMemory as read_no_memory}
 use Rattle.aws_main.specs.declared.causes.Unanswered.{Unanswered}
 use Rattle.aws_main.specs.declared.causes.Unanswered.TheVariants.{NotBuilt as answer_not_built, Lost as answer_lost, OutOfMemory as answer_no_memory}
 
 -- the exit status
 abbrev pub status_of : Cause → ℕ
 status_of Done = 0
+status_of (Usage fault) = 2
 status_of _ = 255
 
 abbrev pub IsFileFault : Cause → Type 0
@@ -38,6 +39,9 @@ unanswered_of pure_no_memory = answer_no_memory
 
 abbrev pub cause_of_unread : Unread → Cause
 cause_of_unread read_not_built = NotBuilt
+cause_of_unread (read_usage fault) = Usage fault
+cause_of_unread (read_bad_model file place) = BadModel file place
+cause_of_unread (read_not_admitted refusal) = NotAdmitted refusal
 cause_of_unread (read_fault path) = FileFault path
 cause_of_unread read_no_memory = OutOfMemory
 
@@ -60,8 +64,13 @@ pub record HasLinkCause {T : Type 0} (before now : ℕ) (result : Result T Unans
 abbrev pub GainsFront : List ℕ → List ℕ → List ℕ → Type 0
 GainsFront bytes before after = (n : ℕ) × (after ≡ before ++ take n bytes)
 
--- a fault of a file is at a path of this kind
+-- what ends a search of the files: a fault at a path of this kind, or want of memory
 abbrev pub FaultsAt : (List ℕ → Type 0) → Unread → Type 0
 FaultsAt P (read_fault path) = P path
-FaultsAt P read_not_built = Unit {0}
 FaultsAt P read_no_memory = Unit {0}
+FaultsAt P _ = ⊥
+
+-- a refusal is this one, or want of memory, which is free
+abbrev pub Refuses : Unread → Unread → Type 0
+Refuses due read_no_memory = Unit {0}
+Refuses due refusal = refusal ≡ due

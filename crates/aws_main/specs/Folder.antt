@@ -1,85 +1,118 @@
 -- Where a service's model stands among the files.
-use Rattle.std.specs.Prelude.{◌≡◌, ◌==◌, if◌then◌else◌, ℕ, ◌≤◌, ◌<◌, Bool, List, [], ◌∷◌, ◌++◌, Option, None, Some, length, codes, encode_utf8_all, Contains, IfSome}
-use Rattle.std.specs.List.{list_any}
+use Rattle.std.specs.Prelude.{◌≡◌, ℕ, ◌<◌, ◌≤◌, ◌⊎◌, List, [], ◌∷◌, ◌++◌, Option, None, Some, length, codes, flat_map, option_map, slice_get, encode_utf8_all, Contains, IfSome}
+use Rattle.std.specs.List.{slice_split}
+use Rattle.std.specs.Option.{option_or}
+use Rattle.std.specs.Str.{chars}
 use Rattle.aws_world.specs.Env.{value_of}
 use Rattle.aws_world.specs.FileTree.{file_at, IsChild, IsBefore}
+use Rattle.aws_main.specs.declared.searching.ModelFile.{ModelFile}
+use Rattle.aws_main.specs.declared.searching.ModelFile.TheVariants.{Whole, TooLong}
+use Rattle.aws_main.specs.declared.searching.Version.{Version}
+use Rattle.aws_main.specs.Words.{is_colon}
 
-abbrev pub or_else : {A : Type 0} → Option A → Option A → Option A
-or_else None other = other
-or_else (Some x) other = Some x
+-- paths and bytes of files, or names and values of variables
+abbrev pub Held : Type 0
+Held = List (List ℕ × List ℕ)
+
+-- a part of a text, where it isn't empty
+abbrev pub part_of : List ℕ → List (List ℕ)
+part_of [] = []
+part_of (b ∷ bs) = chars (b ∷ bs) ∷ []
+
+-- the parts of a text between its colons that aren't empty
+abbrev pub folders_in : List ℕ → List (List ℕ)
+folders_in text = flat_map part_of (slice_split is_colon text)
+
+abbrev pub folders_named : Option (List ℕ) → List (List ℕ)
+folders_named None = []
+folders_named (Some text) = folders_in (encode_utf8_all text)
+
+-- the folders that the environment names for models
+abbrev pub folders_of : Held → List (List ℕ)
+folders_of env = folders_named (value_of (codes "AWS_DATA_PATH") env)
 
 -- the path of a name in a folder
 abbrev pub below : List ℕ → List ℕ → List ℕ
 below folder name = folder ++ 47 ∷ name
 
--- the path of a version's model file
+-- the path of a version's model file in a service's folder
 abbrev pub model_path : List ℕ → List ℕ → List ℕ
 model_path folder version = below (below folder version) (codes "service-2.json")
 
--- the bytes of a version's model file
-abbrev pub model_at : List ℕ → List (List ℕ × List ℕ) → List ℕ → Option (List ℕ)
-model_at folder files version = file_at (model_path folder version) files
+-- the file that stands at a place, which has at most 32 MiB or is too long
+abbrev pub IsFile : Option (List ℕ) → ModelFile → Type 0
+IsFile None file = ⊥
+IsFile (Some bytes) (Whole whole) = (bytes ≡ whole) × (length bytes ≤ 33554432)
+IsFile (Some bytes) TooLong = 33554432 < length bytes
 
--- the folder's name holds a colon, which separates folders
-abbrev pub has_colon : List ℕ → Bool
-has_colon text = list_any (λ b. b == 58) (encode_utf8_all text)
+-- what was read at a place is the file there, or nothing
+abbrev pub IsFileAt : Option (List ℕ) → Option ModelFile → Type 0
+IsFileAt there None = there ≡ None
+IsFileAt there (Some file) = IsFile there file
 
--- what a function gives at the last item at which it gives something
-abbrev pub last_some : {A B : Type 0} → (A → Option B) → List A → Option B
-last_some f [] = None
-last_some f (x ∷ xs) = or_else (last_some f xs) (f x)
+-- the file of a version in a service's folder
+abbrev pub IsModelAt : Held → List ℕ → List ℕ → ModelFile → Type 0
+IsModelAt files folder name file = IsFile (file_at (model_path folder name) files) file
 
--- nothing is there, or something longer than the limit
-abbrev pub IsNoneOrLonger : ℕ → Option (List ℕ) → Type 0
-IsNoneOrLonger limit None = Unit {0}
-IsNoneOrLonger limit (Some bytes) = limit < length bytes
+-- one of these versions in a service's folder, with its file
+abbrev pub IsListed : Held → List ℕ → List (List ℕ) → List ℕ → ModelFile → Type 0
+IsListed files folder versions name file = Contains versions name × IsModelAt files folder name file
 
--- of the versions in a service's folder this is the greatest that has a model file
-pub record IsNewest (folder : List ℕ) (files : List (List ℕ × List ℕ)) (version : List ℕ) : Type 0 where
-  pub listed : IsChild folder files version
-  pub newest : (other : List ℕ) → IsChild folder files other → IsBefore version other → model_at folder files other ≡ None
+-- a version of a service in a folder of models, with its file
+pub record IsVersion (files : Held) (folder service name : List ℕ) (file : ModelFile) : Type 0 where
+  pub service_is : IsChild folder files service
+  pub version_is : IsChild (below folder service) files name
+  pub file_is : IsModelAt files (below folder service) name file
 
--- the folder that holds no colon, which would separate folders
-abbrev pub one_folder : Option (List ℕ) → Option (List ℕ)
-one_folder None = None
-one_folder (Some folder) = if has_colon folder then None else Some folder
+abbrev pub name_of : Option Version → Option (List ℕ)
+name_of version = option_map (λ v. v.name) version
 
--- the folder that the environment names for models
-abbrev pub root_of : List (List ℕ × List ℕ) → Option (List ℕ)
-root_of env = one_folder (value_of (codes "AWS_DATA_PATH") env)
+-- a name comes after another in the order of bytes, where there is another
+abbrev pub IsAfter : Option (List ℕ) → List ℕ → Type 0
+IsAfter None name = Unit {0}
+IsAfter (Some last) name = IsBefore last name
 
--- a service's folder stands in that folder
-pub record IsServiceFolder (env files : List (List ℕ × List ℕ)) (service folder : List ℕ) : Type 0 where
-  pub root : List ℕ
-  pub root_is : root_of env ≡ Some root
-  pub there : IsChild root files service
-  pub path_is : folder ≡ below root service
+-- a name is the last one or comes before it
+abbrev pub IsUpTo : Option (List ℕ) → List ℕ → Type 0
+IsUpTo None name = ⊥
+IsUpTo (Some last) name = (name ≡ last) ⊎ IsBefore name last
 
--- a service's model file is that of its newest version, and has at most 32 MiB
-pub record IsModelFile (env files : List (List ℕ × List ℕ)) (service bytes : List ℕ) : Type 0 where
-  pub folder : List ℕ
-  pub version : List ℕ
-  pub folder_is : IsServiceFolder env files service folder
-  pub version_is : IsNewest folder files version
-  pub here : model_at folder files version ≡ Some bytes
-  pub small : length bytes ≤ 33554432
+-- Of these versions the greatest, where it comes after the newest so far.
+pub record IsNewer (IsOne : List ℕ → ModelFile → Type 0) (newest newer : Option Version) : Type 0 where
+  pub greatest : (name : List ℕ) (file : ModelFile) → IsOne name file → IsUpTo (name_of (option_or newer newest)) name
+  pub there : IfSome newer (λ v. IsOne v.name v.file × IsAfter (name_of newest) v.name)
 
--- a service's folder is this path in the folder that the environment names
-abbrev pub IsPathInRoot : List (List ℕ × List ℕ) → List ℕ → List ℕ → Type 0
-IsPathInRoot env service path = (root : List ℕ) × (root_of env ≡ Some root) × (path ≡ below root service)
+-- Of versions at places the greatest, and of those that have it the one at the first place.
+pub record IsNewestOf (IsOneAt : ℕ → List ℕ → ModelFile → Type 0) (newest : Option Version) : Type 0 where
+  pub greatest : (at : ℕ) (name : List ℕ) (file : ModelFile) → IsOneAt at name file → IsUpTo (name_of newest) name
+  pub first : IfSome newest (λ v. (at : ℕ) × IsOneAt at v.name v.file
+      × ((other : ℕ) (file : ModelFile) → other < at → IsOneAt other v.name file → ⊥))
+
+-- a version of a service in the folder at a place among the folders
+abbrev pub IsVersionAt : Held → List (List ℕ) → List ℕ → ℕ → List ℕ → ModelFile → Type 0
+IsVersionAt files folders service at name file =
+    (folder : List ℕ) × (slice_get folders at ≡ Some folder) × IsVersion files folder service name file
+
+-- the greatest version of a service in the folders, and of those that have it that in the first
+abbrev pub IsNewest : Held → List (List ℕ) → List ℕ → Option Version → Type 0
+IsNewest files folders service newest = IsNewestOf (IsVersionAt files folders service) newest
 
 -- the path of one of these versions' model file in a folder
 abbrev pub IsPathAmong : List ℕ → List (List ℕ) → List ℕ → Type 0
 IsPathAmong folder versions path = (version : List ℕ) × Contains versions version × (path ≡ model_path folder version)
 
 -- the path of a version's model file in a folder; of files that tell what they hold, a version in it
-abbrev pub IsVersionPath : Option (List (List ℕ × List ℕ)) → List ℕ → List ℕ → Type 0
+abbrev pub IsVersionPath : Option Held → List ℕ → List ℕ → Type 0
 IsVersionPath held folder path =
     (version : List ℕ) × IfSome held (λ files. IsChild folder files version) × (path ≡ model_path folder version)
 
--- a path at which a service's files are looked for: the folder that the environment names, the
--- service's folder in it, and the model file of a version in that
-pub data IsLookedAt (env : List (List ℕ × List ℕ)) (held : Option (List (List ℕ × List ℕ))) (service path : List ℕ) : Type 0 where
-  at_root : root_of env ≡ Some path → IsLookedAt env held service path
-  at_folder : IsPathInRoot env service path → IsLookedAt env held service path
-  at_version : (folder : List ℕ) → IsPathInRoot env service folder → IsVersionPath held folder path → IsLookedAt env held service path
+-- a path at which a service is looked for in a folder: the folder, the service's folder in it, and
+-- the model file of a version in that
+pub data IsLookedAtIn (folder : List ℕ) (held : Option Held) (service path : List ℕ) : Type 0 where
+  at_folder : path ≡ folder → IsLookedAtIn folder held service path
+  at_service : path ≡ below folder service → IsLookedAtIn folder held service path
+  at_version : IsVersionPath held (below folder service) path → IsLookedAtIn folder held service path
+
+-- a path at which a service is looked for in one of the folders
+abbrev pub IsLookedAt : List (List ℕ) → Option Held → List ℕ → List ℕ → Type 0
+IsLookedAt folders held service path = (folder : List ℕ) × Contains folders folder × IsLookedAtIn folder held service path

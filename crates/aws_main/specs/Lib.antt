@@ -1,11 +1,11 @@
 pub mod Causes
 pub mod Course
-pub mod Documents
+pub mod Due
 pub mod Finding
+pub mod Folder
 pub mod Messages
-pub mod Model
-pub mod Names
+pub mod Models
 pub mod Output
+pub mod Plain
 pub mod Request
 pub mod Words
-pub mod Folder

@@ -12,10 +12,17 @@ use Rattle.json_doc.specs.Indented.{indented_of}
 use Rattle.json_doc.specs.Keys.{value_at}
 use Rattle.aws_world.specs.declared.message.Reply.{Reply}
 use Rattle.http_reply.specs.Fields.{header_of}
-use Rattle.aws_main.specs.declared.models.Member.{Member}
-use Rattle.aws_main.specs.declared.models.Operation.{Operation}
-use Rattle.aws_main.specs.Documents.{fields_of}
+use Rattle.aws_main.specs.declared.plain_operations.PlainMember.{PlainMember}
+use Rattle.aws_main.specs.declared.plain_operations.PlainOperation.{PlainOperation}
 use Rattle.aws_main.specs.Finding.{◌>>=◌, when}
+
+abbrev pub fields_in : Doc-F Doc → Option (List (Pair Doc))
+fields_in (Doc-F.Fields pairs) = Some pairs
+fields_in _ = None
+
+-- the members of an object
+unfoldable pub fields_of : Doc → Option (List (Pair Doc))
+fields_of doc = fields_in (out-Doc doc)
 
 abbrev pub is_text_in : Doc-F Doc → Bool
 is_text_in (Doc-F.Str text) = true
@@ -33,12 +40,12 @@ unfoldable pub has_kind : Bool → Doc → Bool
 has_kind is_list value = if is_list then is_texts_in (out-Doc value) else is_text_in (out-Doc value)
 
 -- the known members with one more in front, where the body has it
-abbrev pub with_member : Member → Option Doc → List (Pair Doc) → Option (List (Pair Doc))
+abbrev pub with_member : PlainMember → Option Doc → List (Pair Doc) → Option (List (Pair Doc))
 with_member member None known = Some known
 with_member member (Some value) known = when (has_kind member.is_list value) (Some (record { key = member.name; value = value } ∷ known))
 
 -- the members of a body that the model knows, in the model's order, where each has its kind
-abbrev pub known_of : List (Pair Doc) → List Member → Option (List (Pair Doc))
+abbrev pub known_of : List (Pair Doc) → List PlainMember → Option (List (Pair Doc))
 known_of body [] = Some []
 known_of body (member ∷ members) = do
   known ← known_of body members
@@ -50,14 +57,14 @@ printed [] = []
 printed (p ∷ ps) = indented_of (doc.Fields (p ∷ ps)) ++ 10 ∷ []
 
 -- what is printed of a body
-unfoldable pub text_of_body : List Member → Doc → Option (List ℕ)
+unfoldable pub text_of_body : List PlainMember → Doc → Option (List ℕ)
 text_of_body members body = do
   pairs ← fields_of body
   known ← known_of pairs members
   Some (printed (put_all [] known))
 
 -- the text is that of a body, where the operation has an output
-abbrev pub IsBodyText : Option (List Member) → List ℕ → List ℕ → Type 0
+abbrev pub IsBodyText : Option (List PlainMember) → List ℕ → List ℕ → Type 0
 IsBodyText None body text = text ≡ []
 IsBodyText (Some members) body text = (d : Doc) × Reads body d × (text_of_body members d ≡ Some text)
 
@@ -70,7 +77,7 @@ unfoldable pub is_plain_body : Reply → Bool
 is_plain_body reply = is_plain_coding (header_of (codes "Content-Encoding") reply.headers)
 
 -- the text is what is printed of a reply
-pub record IsOutput (operation : Operation) (reply : Reply) (text : List ℕ) : Type 0 where
+pub record IsOutput (operation : PlainOperation) (reply : Reply) (text : List ℕ) : Type 0 where
   pub good : reply.status ≡ 200
   pub plain : IsTrue (is_plain_body reply)
   pub shown : IsBodyText operation.output reply.body text

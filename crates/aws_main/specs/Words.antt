@@ -1,8 +1,8 @@
 -- What the words of a line ask for. A word is judged by its bytes in UTF-8.
-use Rattle.std.specs.Prelude.{◌≡◌, ℕ, Bool, not, ◌&&◌, ◌||◌, List, [], ◌∷◌, length, drop, flat_map, nat_eq, nat_le, nat_lt, ◌==◌, if◌then◌else◌, slice_index, codes, encode_utf8_all, Option, Some, None, option_map, option_and_then, Result, Ok, Err}
-use Rattle.std.specs.Char.{is_ascii_digit, is_ascii_lowercase, to_ascii_uppercase}
+use Rattle.std.specs.Prelude.{◌≡◌, ℕ, Bool, not, ◌&&◌, ◌||◌, List, [], ◌∷◌, length, drop, nat_eq, nat_lt, ◌==◌, if◌then◌else◌, slice_index, codes, encode_utf8_all, Option, Some, None, option_map, option_and_then, Result, Ok, Err}
+use Rattle.std.specs.Char.{is_ascii_digit}
 use Rattle.std.specs.Int.{is_in_range}
-use Rattle.std.specs.List.{list_all, slice_split, starts_with, before_first, after_first}
+use Rattle.std.specs.List.{list_all, starts_with, before_first, after_first}
 use Rattle.std.specs.Str.{bytes_eq, chars}
 use Rattle.std.specs.Str.Parse.{digits_value}
 use Rattle.aws_world.specs.declared.message.Target.{Target}
@@ -10,25 +10,9 @@ use Rattle.aws_main.specs.declared.asking.Asked.{Asked}
 use Rattle.aws_main.specs.declared.causes.Unbuilt.{Unbuilt}
 use Rattle.aws_main.specs.declared.causes.Unbuilt.TheVariants.{NotBuilt, OutOfMemory}
 
--- at least so many letters, all of them small
-abbrev pub is_small_word : ℕ → List ℕ → Bool
-is_small_word least word = nat_le least (length word) && list_all is_ascii_lowercase word
-
--- a text with its first letter raised
-abbrev pub raised : List ℕ → List ℕ
-raised [] = []
-raised (first ∷ others) = to_ascii_uppercase first ∷ others
-
--- what stands between the dashes of a command
-abbrev pub parts_of : List ℕ → List (List ℕ)
-parts_of command = slice_split (λ b. b == 45) command
-
--- the operation of a command: its parts, each with its first letter raised, without the dashes
-abbrev pub operation_of : List ℕ → Option (List ℕ)
-operation_of command =
-    if list_all (is_small_word 2) (parts_of command)
-    then Some (flat_map (λ part. raised (chars part)) (parts_of command))
-    else None
+-- a word is an option: `--` and more
+abbrev pub is_option_word : List ℕ → Bool
+is_option_word word = starts_with nat_eq word (codes "--") && nat_lt 2 (length word)
 
 -- digits of which the first is not 0
 abbrev pub is_plain_number : List ℕ → Bool
@@ -70,17 +54,14 @@ abbrev pub address_of : List ℕ → Option (List ℕ × Target)
 address_of url = option_and_then named_by (after_front (codes "http://") url)
 
 abbrev pub asked_at : List ℕ → List ℕ → List ℕ × Target → Asked
-asked_at service operation address = record { service = service; operation = operation; target = address.1; host = address.0 }
+asked_at service command address = record { service = service; command = command; target = address.1; host = address.0 }
 
-abbrev pub asked_with : List ℕ → List ℕ → List ℕ → Option Asked
-asked_with service url operation = option_map (asked_at service operation) (address_of (encode_utf8_all url))
-
--- what SERVICE OPERATION and URL ask for
+-- what SERVICE OPERATION and URL ask for, of which the first two are no options
 abbrev pub call_of : List ℕ → List ℕ → List ℕ → Option Asked
 call_of service command url =
-    if is_small_word 1 (encode_utf8_all service)
-    then option_and_then (asked_with service url) (operation_of (encode_utf8_all command))
-    else None
+    if is_option_word (encode_utf8_all service) || is_option_word (encode_utf8_all command)
+    then None
+    else option_map (asked_at service command) (address_of (encode_utf8_all url))
 
 -- SERVICE OPERATION --no-sign-request --endpoint-url URL, and nothing else
 abbrev pub asked_of : List (List ℕ) → Option Asked

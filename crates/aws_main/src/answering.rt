@@ -6,8 +6,8 @@ ghost use Rattle.aws_main.specs.Causes.{HasLinkCause};
 ghost use Rattle.aws_main.specs.Course.{IsAnswer, IsShown};
 
 use crate::causes::{Unanswered, Unbuilt};
-use crate::models::Operation;
 use crate::outputs::output;
+use crate::plain_operations::PlainOperation;
 use crate::planning::Planned;
 use aws_world::{Link, Reply};
 use http_exchange::{Outcome, exchange};
@@ -27,7 +27,11 @@ pub fn answer<L: Link>(alloc: Global, planned: &Planned, link: &mut L) -> Result
 }
 
 /// The answer to what came of an exchange.
-fn answer_to(alloc: Global, operation: &Operation, outcome: &Outcome) -> Result<Text, Unanswered>
+fn answer_to(
+    alloc: Global,
+    operation: &PlainOperation,
+    outcome: &Outcome,
+) -> Result<Text, Unanswered>
     ensures { IsAnswer operation.now outcome.now result }
 {
     match outcome {
@@ -39,7 +43,7 @@ fn answer_to(alloc: Global, operation: &Operation, outcome: &Outcome) -> Result<
 }
 
 /// The text that is due for a whole reply.
-fn shown(alloc: Global, operation: &Operation, reply: &Reply) -> Result<Text, Unanswered>
+fn shown(alloc: Global, operation: &PlainOperation, reply: &Reply) -> Result<Text, Unanswered>
     ensures { IsShown operation.now reply.now result }
 {
     match output(alloc, operation, reply) {

@@ -1,10 +1,9 @@
-ghost use Rattle.std.specs.Prelude.{◌≡◌, ◌++◌, IfOk, OnOk};
-ghost use Rattle.std.specs.Str.{chars};
-ghost use Rattle.aws_main.specs.Words.{is_small_word, raised, operation_of, port_of, address_of, call_of, asked_of, Gives};
+ghost use Rattle.std.specs.Prelude.{◌≡◌};
+ghost use Rattle.aws_main.specs.Words.{is_option_word, port_of, address_of, call_of, asked_of, Gives};
 
 use crate::causes::Unbuilt;
 use aws_world::Target;
-use json_doc::{OutOfMemory, Text};
+use json_doc::Text;
 use std::alloc::Global;
 
 /// The port that a URL of HTTP has where it names none (RFC 9110, section 4.2.1).
@@ -14,8 +13,8 @@ const HTTP_PORT: u16 = 80;
 #[derive(Debug, Drop)]
 pub struct Asked {
     pub service: Text,
-    /// The operation's name in the model.
-    pub operation: Text,
+    /// The operation's name on the command line.
+    pub command: Text,
     pub target: Target,
     /// The host with its port, as the header `Host` has it.
     pub host: Text,
@@ -38,52 +37,23 @@ pub fn read_words(alloc: Global, words: &[Text]) -> Result<Asked, Unbuilt>
 fn read_call(alloc: Global, service: &Text, command: &Text, url: &Text) -> Result<Asked, Unbuilt>
     ensures { Gives (call_of service.now command.now url.now) result }
 {
-    if !is_small_word(service.as_str(), 1) {
+    if is_option_word(service.as_str()) || is_option_word(command.as_str()) {
         return Err(Unbuilt::NotBuilt);
     }
-    let Some(operation) = operation_name(alloc, command.as_str())? else {
-        return Err(Unbuilt::NotBuilt);
-    };
     let (host, target) = address(alloc, url.as_str())?;
     Ok(Asked {
         service: service.copy(alloc)?,
-        operation,
+        command: command.copy(alloc)?,
         target,
         host,
     })
 }
 
-/// At least so many letters, all of them small.
-fn is_small_word(word: &str, least: usize) -> bool
-    ensures { result ≡ is_small_word least word.now }
+/// Whether a word is an option: `--` and more.
+fn is_option_word(word: &str) -> bool
+    ensures { result ≡ is_option_word word.now }
 {
-    word.len() >= least && word.bytes().all(|b| b.is_ascii_lowercase())
-}
-
-/// The name of an operation whose command name is parts of two or more small letters joined by
-/// `-`: the parts with their first letters raised.
-fn operation_name(alloc: Global, command: &str) -> Result<Option<Text>, OutOfMemory>
-    ensures { IfOk result (λ name. name ≡ operation_of command.now) }
-{
-    let mut name = Text::new(alloc);
-    for part in command.split('-') {
-        if !is_small_word(part, 2) {
-            return Ok(None);
-        }
-        push_raised(&mut name, part)?;
-    }
-    Ok(Some(name))
-}
-
-/// Puts a text at the end with its first letter raised.
-fn push_raised(name: &mut Text, part: &str) -> Result<(), OutOfMemory>
-    ensures { OnOk result (name.new ≡ name.old ++ raised (chars part.now)) }
-{
-    let mut letters = part.chars();
-    if let Some(first) = letters.next() {
-        name.push(first.to_ascii_uppercase())?;
-    }
-    name.push_str(letters.as_str())
+    word.starts_with("--") && word.len() > 2
 }
 
 /// Host and target of `http://127.0.0.1:P` or `http://localhost:P`, where P is a port as `port_of`

@@ -5,6 +5,7 @@ ghost use Rattle.aws_main.specs.Causes.{status_of, unread_of, unanswered_of, cau
 
 use aws_world::LinkFault;
 use json_doc::{OutOfMemory, Text};
+use service_model::Refusal;
 
 /// Why a command ended.
 #[derive(Debug, Drop)]
@@ -13,6 +14,12 @@ pub enum Cause {
     Done,
     /// The command needs a part that isn't built.
     NotBuilt,
+    /// The words name what no model file has.
+    Usage(UsageFault),
+    /// The model file of this name breaks a rule of models at this place.
+    BadModel(Text, Text),
+    /// The model's operation can't be called.
+    NotAdmitted(Refusal),
     /// The file or folder at this path could not be read.
     FileFault(Text),
     /// The link failed before a reply was whole.
@@ -22,13 +29,23 @@ pub enum Cause {
     OutOfMemory,
 }
 
+/// What is wrong with the words of a line.
+#[derive(Debug, Drop)]
+pub enum UsageFault {
+    /// No folder of models has a model file of this service.
+    UnknownService(Text),
+    /// The service's model has no operation of this command name.
+    UnknownOperation(Text),
+}
+
 impl Cause {
-    /// The exit status: 0 after all of the work, else 255.
+    /// The exit status: 0 after all of the work, 2 where the words are at fault, else 255.
     pub fn status(&self) -> u8
         ensures { result ≡ status_of self.now }
     {
         match self {
             Cause::Done => 0,
+            Cause::Usage(_) => 2,
             _ => 255,
         }
     }
@@ -61,10 +78,13 @@ impl From<OutOfMemory> for Unbuilt {
     }
 }
 
-/// Why a part of the work that reads files was not done.
+/// Why no request was made.
 #[derive(Debug, Drop)]
 pub enum Unread {
     NotBuilt,
+    Usage(UsageFault),
+    BadModel(Text, Text),
+    NotAdmitted(Refusal),
     FileFault(Text),
     OutOfMemory,
 }
@@ -83,6 +103,9 @@ impl Unread {
     {
         match self {
             Unread::NotBuilt => Cause::NotBuilt,
+            Unread::Usage(fault) => Cause::Usage(fault),
+            Unread::BadModel(file, place) => Cause::BadModel(file, place),
+            Unread::NotAdmitted(refusal) => Cause::NotAdmitted(refusal),
             Unread::FileFault(path) => Cause::FileFault(path),
             Unread::OutOfMemory => Cause::OutOfMemory,
         }

@@ -4,16 +4,19 @@
 mod answering;
 mod asking;
 mod causes;
-mod documents;
+mod folders;
+mod laws;
 mod messages;
 mod models;
-mod names;
 mod outputs;
+mod plain_operations;
 mod planning;
 mod requests;
 mod running;
 mod searching;
 mod sinks;
+mod texts;
 
-pub use causes::{Cause, Ending};
+pub use causes::{Cause, Ending, UsageFault};
+pub use laws::one_is_due;
 pub use running::run;

@@ -7,18 +7,17 @@ ghost use Rattle.json_doc.specs.Grammar.{put_all};
 ghost use Rattle.http_reply.specs.Fields.{header_of};
 ghost use Rattle.aws_main.specs.declared.causes.Unbuilt.TheVariants.{OutOfMemory as no_memory};
 ghost use Rattle.aws_main.specs.Finding.{Finds};
-ghost use Rattle.aws_main.specs.Output.{IsBodyText, IsOutput, has_kind, is_plain_body, is_text, known_of, printed, text_of_body};
+ghost use Rattle.aws_main.specs.Output.{IsBodyText, IsOutput, fields_of, has_kind, is_plain_body, is_text, known_of, printed, text_of_body};
 
 use crate::causes::Unbuilt;
-use crate::documents::object;
-use crate::models::{Member, Operation};
+use crate::plain_operations::{PlainMember, PlainOperation};
 use aws_world::Reply;
 use http_reply::header;
 use json_doc::{Doc, List, OutOfMemory, Pairs, ReadFault, Text, copy, indented, read};
 use std::alloc::Global;
 
 /// What is printed of a good reply: its known members in the model's order.
-pub fn output(alloc: Global, operation: &Operation, reply: &Reply) -> Result<Text, Unbuilt>
+pub fn output(alloc: Global, operation: &PlainOperation, reply: &Reply) -> Result<Text, Unbuilt>
     ensures printed { IfOk result (λ text. IsOutput operation.now reply.now text) }
     ensures only { (text : List ℕ) → IsOutput operation.now reply.now text
         → MatchResult result (λ made. made ≡ text) (λ e. e ≡ no_memory) }
@@ -58,7 +57,7 @@ fn is_name(text: &Text, name: &str) -> bool
 }
 
 /// What is printed of a body in JSON.
-fn body_text(alloc: Global, members: &List<Member>, body: &[u8]) -> Result<Text, Unbuilt>
+fn body_text(alloc: Global, members: &List<PlainMember>, body: &[u8]) -> Result<Text, Unbuilt>
     ensures printed { IfOk result (λ text. IsBodyText (Some members.now) body.now text) }
     ensures only { (text : List ℕ) → IsBodyText (Some members.now) body.now text
         → MatchResult result (λ made. made ≡ text) (λ e. e ≡ no_memory) }
@@ -73,18 +72,29 @@ fn body_text(alloc: Global, members: &List<Member>, body: &[u8]) -> Result<Text,
 }
 
 #[tactic(auto, unfolding(crate::specs::Output::text_of_body))]
-fn document_text(alloc: Global, members: &List<Member>, body: &Doc) -> Result<Text, Unbuilt>
+fn document_text(alloc: Global, members: &List<PlainMember>, body: &Doc) -> Result<Text, Unbuilt>
     ensures { Finds (λ text. text) (text_of_body members.now body.now) result }
 {
-    let pairs = object(Some(body))?;
+    let pairs = object(body)?;
     let known = known_members(alloc, members, pairs)?;
     Ok(lines(alloc, known)?)
+}
+
+/// The members of a document that is to be an object.
+#[tactic(auto, unfolding(crate::specs::Output::fields_of))]
+fn object(doc: &Doc) -> Result<&Pairs<Doc>, Unbuilt>
+    ensures { Finds (λ pairs. pairs.now) (fields_of doc.now) result }
+{
+    match doc {
+        Doc::Fields(pairs) => Ok(pairs),
+        _ => Err(Unbuilt::NotBuilt),
+    }
 }
 
 /// The members of a body that the operation's output knows.
 fn known_members(
     alloc: Global,
-    members: &List<Member>,
+    members: &List<PlainMember>,
     body: &Pairs<Doc>,
 ) -> Result<Pairs<Doc>, Unbuilt>
     ensures { Finds (λ known. known) (option_map (put_all []) (known_of body.now members.now)) result }

@@ -1,25 +1,24 @@
-ghost use Rattle.std.specs.Prelude.{◌≡◌, Some, None, IfOk, IfErr, IsErrOf};
-ghost use Rattle.json_doc.specs.declared.doc.Doc.{Doc};
-ghost use Rattle.json_doc.specs.Grammar.{Reads};
-ghost use Rattle.aws_main.specs.Causes.{HasFileCause};
-ghost use Rattle.aws_main.specs.Model.{operation_of};
-ghost use Rattle.aws_main.specs.Course.{IsRequestOf, IsPlanned, IsRefusal};
+ghost use Rattle.std.specs.Prelude.{◌≡◌, IfOk, IfErr};
+ghost use Rattle.aws_main.specs.Causes.{HasFileCause, Refuses};
+ghost use Rattle.aws_main.specs.Course.{IsPlanned, IsRefusal};
+ghost use Rattle.aws_main.specs.Due.{admitted, due_by, Answers};
 
 use crate::asking::{Asked, read_words};
-use crate::causes::{Unbuilt, Unread};
-use crate::models::{Operation, read_operation};
+use crate::causes::{Unread, UsageFault};
+use crate::models::find_model;
+use crate::plain_operations::{PlainOperation, plain_operation};
 use crate::requests::message;
-use crate::searching::model_file;
 use aws_world::{Env, Files};
 use http_exchange::wire;
-use json_doc::{Bytes, ReadFault, Text, read};
+use json_doc::{Bytes, OutOfMemory, Text};
+use service_model::{Model, Operation, Refusal};
 use std::alloc::Global;
 
 /// What a line asks for, and the bytes of its request.
 #[derive(Debug, Drop)]
 pub struct Planned {
     pub asked: Asked,
-    pub operation: Operation,
+    pub operation: PlainOperation,
     pub request: Bytes,
 }
 
@@ -38,25 +37,24 @@ pub fn plan<F: Files>(
         Ok(asked) => asked,
         Err(refusal) => return Err(refusal.into()),
     };
-    let file = match model_file(alloc, env, files, &asked.service) {
-        Ok(file) => file,
+    let model = match find_model(alloc, env, files, &asked.service) {
+        Ok(model) => model,
         Err(refusal) => return Err(refusal),
     };
-    match request(alloc, asked, file.as_slice()) {
-        Ok(planned) => Ok(planned),
-        Err(refusal) => Err(refusal.into()),
-    }
+    request(alloc, asked, &model)
 }
 
-/// The request of what is asked for, where the model file has it.
-fn request(alloc: Global, asked: Asked, file: &[u8]) -> Result<Planned, Unbuilt>
-    ensures same { IfOk result (λ planned. planned.asked ≡ asked) }
-    ensures found { IfOk result (IsRequestOf file.now) }
-    ensures refused { IsErrOf result Unbuilt.NotBuilt → (planned : Planned) → planned.asked ≡ asked → IsRequestOf file.now planned → ⊥ }
+/// The request of what is asked for, by the service's model.
+fn request(alloc: Global, asked: Asked, model: &Model) -> Result<Planned, Unread>
+    ensures { Answers (λ planned. planned) (due_by asked model.now) result }
 {
-    let operation = match operation_in(alloc, file, &asked.operation) {
+    let operation = match admitted(alloc, &asked.command, model) {
         Ok(operation) => operation,
         Err(refusal) => return Err(refusal),
+    };
+    let operation = match plain_operation(alloc, model, operation) {
+        Ok(operation) => operation,
+        Err(refusal) => return Err(refusal.into()),
     };
     let request = wire(alloc, &message(alloc, &asked, &operation)?)?;
     Ok(Planned {
@@ -66,16 +64,49 @@ fn request(alloc: Global, asked: Asked, file: &[u8]) -> Result<Planned, Unbuilt>
     })
 }
 
-/// The operation of a name in a model file.
-fn operation_in(alloc: Global, file: &[u8], name: &Text) -> Result<Operation, Unbuilt>
-    ensures found { IfOk result (λ operation. (model : Doc) × Reads file.now model × (operation_of model name.now ≡ Some operation)) }
-    ensures refused { IsErrOf result Unbuilt.NotBuilt → (model : Doc) → Reads file.now model → operation_of model name.now ≡ None }
+/// The operation of a command, where it can be called.
+fn admitted<'a>(alloc: Global, command: &Text, model: &'a Model) -> Result<&'a Operation, Unread>
+    ensures { Answers (λ operation. operation.now) (admitted command.now model.now) result }
 {
-    match read(alloc, file) {
-        Ok(model) => read_operation(alloc, &model, name),
-        Err(ReadFault::OutOfMemory) => Err(Unbuilt::OutOfMemory),
-        Err(ReadFault::Syntax(_)) => Err(Unbuilt::NotBuilt),
-        Err(ReadFault::TooDeep(_)) => Err(Unbuilt::NotBuilt),
-        Err(ReadFault::NumberTooWide(_)) => Err(Unbuilt::NotBuilt),
+    let Some(operation) = model.operation(command) else {
+        return Err(unknown_operation(alloc, command));
+    };
+    match model.admit(operation) {
+        Ok(()) => Ok(operation),
+        Err(refusal) => Err(not_admitted(alloc, refusal)),
     }
+}
+
+fn unknown_operation(alloc: Global, command: &Text) -> Unread
+    ensures { Refuses (Unread.Usage (UsageFault.UnknownOperation command.now)) result }
+{
+    match command.copy(alloc) {
+        Ok(command) => Unread::Usage(UsageFault::UnknownOperation(command)),
+        Err(_) => Unread::OutOfMemory,
+    }
+}
+
+fn not_admitted(alloc: Global, refusal: &Refusal) -> Unread
+    ensures { Refuses (Unread.NotAdmitted refusal.now) result }
+{
+    match refusal_copy(alloc, refusal) {
+        Ok(refusal) => Unread::NotAdmitted(refusal),
+        Err(_) => Unread::OutOfMemory,
+    }
+}
+
+/// An equal refusal.
+fn refusal_copy(alloc: Global, refusal: &Refusal) -> Result<Refusal, OutOfMemory>
+    ensures { IfOk result (λ made. made ≡ refusal.now) }
+{
+    Ok(match refusal {
+        Refusal::Protocol => Refusal::Protocol,
+        Refusal::Events => Refusal::Events,
+        Refusal::Signature => Refusal::Signature,
+        Refusal::Checksum => Refusal::Checksum,
+        Refusal::Discovery => Refusal::Discovery,
+        Refusal::JsonValue => Refusal::JsonValue,
+        Refusal::BlobOutput => Refusal::BlobOutput,
+        Refusal::SameArgument(name) => Refusal::SameArgument(name.copy(alloc)?),
+    })
 }

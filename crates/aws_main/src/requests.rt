@@ -1,15 +1,19 @@
-ghost use Rattle.std.specs.Prelude.{◌≡◌, IsTrue, IfOk};
-ghost use Rattle.json_doc.specs.Ascii.{is_ascii_text};
+ghost use Rattle.std.specs.Prelude.{◌≡◌, IfOk};
 ghost use Rattle.aws_main.specs.Request.{target_of, content_type_of, headers_of, message_of};
 
 use crate::asking::Asked;
-use crate::models::Operation;
+use crate::plain_operations::PlainOperation;
+use crate::texts::literal;
 use aws_world::Message;
 use json_doc::{Bytes, List, OutOfMemory, Text};
 use std::alloc::Global;
 
 /// The request of an operation without input, by the protocol `json`.
-pub fn message(alloc: Global, asked: &Asked, operation: &Operation) -> Result<Message, OutOfMemory>
+pub fn message(
+    alloc: Global,
+    asked: &Asked,
+    operation: &PlainOperation,
+) -> Result<Message, OutOfMemory>
     ensures { IfOk result (λ message. message ≡ message_of asked.now operation.now) }
 {
     Ok(Message {
@@ -25,7 +29,7 @@ pub fn message(alloc: Global, asked: &Asked, operation: &Operation) -> Result<Me
 fn headers(
     alloc: Global,
     asked: &Asked,
-    operation: &Operation,
+    operation: &PlainOperation,
 ) -> Result<List<(Text, Text)>, OutOfMemory>
     ensures { IfOk result (λ headers. headers ≡ headers_of asked.now operation.now) }
 {
@@ -40,7 +44,7 @@ fn headers(
 }
 
 /// The prefix of the service's targets, `.` and the operation's name.
-fn target_of(alloc: Global, operation: &Operation) -> Result<Text, OutOfMemory>
+fn target_of(alloc: Global, operation: &PlainOperation) -> Result<Text, OutOfMemory>
     ensures { IfOk result (λ target. target ≡ target_of operation.now) }
 {
     let mut target = operation.target_prefix.copy(alloc)?;
@@ -49,20 +53,10 @@ fn target_of(alloc: Global, operation: &Operation) -> Result<Text, OutOfMemory>
     Ok(target)
 }
 
-fn content_type_of(alloc: Global, operation: &Operation) -> Result<Text, OutOfMemory>
+fn content_type_of(alloc: Global, operation: &PlainOperation) -> Result<Text, OutOfMemory>
     ensures { IfOk result (λ content_type. content_type ≡ content_type_of operation.now) }
 {
     let mut content_type = literal(alloc, "application/x-amz-json-")?;
     content_type.push_str(operation.json_version.as_str())?;
     Ok(content_type)
-}
-
-/// A text in ASCII.
-fn literal(alloc: Global, text: &str) -> Result<Text, OutOfMemory>
-    requires { IsTrue (is_ascii_text text.now) }
-    ensures { IfOk result (λ made. made ≡ text.now) }
-{
-    let mut made = Text::new(alloc);
-    made.push_ascii(text)?;
-    Ok(made)
 }

@@ -1,7 +1,7 @@
-ghost use Rattle.std.specs.Prelude.{◌≡◌, ◌≤◌, false, None};
+ghost use Rattle.std.specs.Prelude.{◌≡◌, ◌≤◌, false, None, Some, IfSome};
 ghost use Rattle.aws_world.specs.Told.{Tells, Rose};
 ghost use Rattle.aws_main.specs.Causes.{status_of, IsFileFault, IsLost, IsOutFault};
-ghost use Rattle.aws_main.specs.Course.{Course, IsCourse, Connects, EndsIn, Prints};
+ghost use Rattle.aws_main.specs.Course.{Course, IsCourse, Connects, EndsIn, Prints, IsUnhindered, IsDoneUnlessMemory};
 ghost use Rattle.aws_main.specs.Messages.{Says, message_bytes};
 
 use crate::answering::answer;
@@ -36,6 +36,13 @@ pub fn run<F: Files, L: Link, C: Clock, D: Dice, O: Sink, E: Sink>(
         × Tells (O.taken out.old) (O.taken out.new) (Prints course result.cause) }
     ensures says { Tells (E.taken err.old) (E.taken err.new)
         (Says (Rose (E.faults err.old) (E.faults err.new)) (message_bytes words.now result.cause)) }
+
+    // Where nothing keeps the command from its end, and neither a file nor standard output fails, it is
+    // done.
+    ensures complete { IfSome (F.holds files.old) (λ held. IfSome (L.told link.old) (λ before. IfSome (L.told link.new) (λ after.
+        IsUnhindered words.now env.now.pairs (Some held) before after
+        → ¬ Rose (F.faults files.old) (F.faults files.new) → ¬ Rose (O.faults out.old) (O.faults out.new)
+        → IsDoneUnlessMemory result.cause))) }
 
     ensures status { result.status ≡ status_of result.cause }
     ensures no_walk { result.next ≡ None }

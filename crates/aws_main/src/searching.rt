@@ -1,93 +1,86 @@
-ghost use Rattle.std.specs.Prelude.{◌≡◌, ◌≤◌, ℕ, List, Some, length, IfOk, IfErr, IfSome, IsErrOf, bytes_eq};
+//! Where a service's model stands among the files.
+ghost use Rattle.std.specs.Prelude.{◌≡◌, false, IfOk, IfErr, IfSome, AllPairs, IsTrue};
 ghost use Rattle.std.specs.List.{list_any};
-ghost use Rattle.std.specs.Str.{chars};
-ghost use Rattle.aws_world.specs.FileTree.{file_at, HasBelow, IsListing, IsLonger};
+ghost use Rattle.std.specs.Str.{chars, bytes_eq};
+ghost use Rattle.aws_world.specs.FileTree.{file_at, IsBefore, IsListing};
 ghost use Rattle.aws_main.specs.Causes.{HasFileCause, FaultsAt};
-ghost use Rattle.aws_main.specs.Folder.{below, model_path, model_at, last_some, has_colon, root_of, IsNoneOrLonger, IsServiceFolder, IsModelFile, IsPathInRoot, IsPathAmong, IsLookedAt};
-ghost use Rattle.std.specs.Option.{option_copied};
+ghost use Rattle.aws_main.specs.Folder.{below, model_path, name_of, IsAfter, IsUpTo, IsFileAt, IsListed, IsVersion, IsNewer, IsNewest, IsLookedAt, IsLookedAtIn, IsPathAmong};
 
 use crate::causes::Unread;
-use aws_world::{Env, FileEnd, Files};
+use aws_world::{FileEnd, Files};
 use json_doc::{Bytes, List, OutOfMemory, Text};
 use std::alloc::Global;
+use std::cmp::Ordering;
 
 /// The most bytes that a model file may have.
 const MOST_MODEL_BYTES: u64 = 33_554_432;
 
-/// The model file of a service: of the versions below `AWS_DATA_PATH`, the greatest that has one.
-pub fn model_file<F: Files>(
-    alloc: Global,
-    env: &Env,
-    files: &mut F,
-    service: &Text,
-) -> Result<Bytes, Unread>
-    ensures kept { F.holds files.new ≡ F.holds files.old }
-    ensures found { IfSome (F.holds files.old)
-        (λ held. IfOk result (IsModelFile env.now.pairs held service.now)) }
-    ensures refused { IfSome (F.holds files.old) (λ held. IsErrOf result Unread.NotBuilt
-        → (bytes : List ℕ) → IsModelFile env.now.pairs held service.now bytes → ⊥) }
-    ensures only { IfSome (F.holds files.old) (λ held. IfOk result (λ made.
-        (bytes : List ℕ) → IsModelFile env.now.pairs held service.now bytes → made ≡ bytes)) }
-    ensures path { IfErr result (FaultsAt (IsLookedAt env.now.pairs (F.holds files.old) service.now)) }
-    ensures cause { HasFileCause (F.faults files.old) (F.faults files.new) result }
-{
-    let folder = match service_folder(alloc, env, files, service) {
-        Ok(folder) => folder,
-        Err(refusal) => return Err(refusal),
-    };
-    let versions = match list(alloc, files, &folder) {
-        Ok(versions) => versions,
-        Err(refusal) => return Err(refusal),
-    };
-    newest(alloc, files, &folder, versions.as_slice())
+/// A model file: its bytes, or that it has too many.
+#[derive(Debug, Drop)]
+pub enum ModelFile {
+    Whole(Bytes),
+    TooLong,
 }
 
-/// The folder of a service, in the folder that the environment names.
-fn service_folder<F: Files>(
+/// A version of a service's model: the name of its folder, and its file.
+#[derive(Debug, Drop)]
+pub struct Version {
+    pub name: Text,
+    pub file: ModelFile,
+}
+
+/// The greatest version of a service's model in these folders, and of those that have it that in
+/// the first.
+pub fn newest_version<F: Files>(
     alloc: Global,
-    env: &Env,
     files: &mut F,
+    folders: &[Text],
     service: &Text,
-) -> Result<Text, Unread>
+) -> Result<Option<Version>, Unread>
     ensures kept { F.holds files.new ≡ F.holds files.old }
     ensures found { IfSome (F.holds files.old)
-        (λ held. IfOk result (IsServiceFolder env.now.pairs held service.now)) }
-    ensures refused { IfSome (F.holds files.old) (λ held. IsErrOf result Unread.NotBuilt
-        → (folder : List ℕ) → IsServiceFolder env.now.pairs held service.now folder → ⊥) }
-    ensures path { IfOk result (IsPathInRoot env.now.pairs service.now) }
-    ensures fault { IfErr result (FaultsAt (λ path. root_of env.now.pairs ≡ Some path)) }
+        (λ held. IfOk result (IsNewest held folders.now service.now)) }
+    ensures path { IfErr result (FaultsAt (IsLookedAt folders.now (F.holds files.old) service.now)) }
     ensures cause { HasFileCause (F.faults files.old) (F.faults files.new) result }
 {
-    let Some(root) = root_folder(env) else {
-        return Err(Unread::NotBuilt);
-    };
-    let services = match list(alloc, files, root) {
+    let mut newest = None;
+    for folder in folders {
+        let newer = match newer_version(alloc, files, folder, service, &newest) {
+            Ok(newer) => newer,
+            Err(refusal) => return Err(refusal),
+        };
+        newest = newer.or(newest);
+    }
+    Ok(newest)
+}
+
+/// The greatest version of a service's model in a folder, where it comes after the newest so far.
+fn newer_version<F: Files>(
+    alloc: Global,
+    files: &mut F,
+    folder: &Text,
+    service: &Text,
+    newest: &Option<Version>,
+) -> Result<Option<Version>, Unread>
+    ensures kept { F.holds files.new ≡ F.holds files.old }
+    ensures found { IfSome (F.holds files.old)
+        (λ held. IfOk result (IsNewer (IsVersion held folder.now service.now) newest.now)) }
+    ensures path { IfErr result (FaultsAt (IsLookedAtIn folder.now (F.holds files.old) service.now)) }
+    ensures cause { HasFileCause (F.faults files.old) (F.faults files.new) result }
+{
+    let services = match list(alloc, files, folder) {
         Ok(services) => services,
         Err(refusal) => return Err(refusal),
     };
     if !has_name(&services, service) {
-        return Err(Unread::NotBuilt);
+        return Ok(None);
     }
-    Ok(below(alloc, root, service.as_str())?)
-}
-
-/// The folder that `AWS_DATA_PATH` names, where it names one.
-fn root_folder(env: &Env) -> Option<&Text>
-    ensures { option_copied result ≡ root_of env.now.pairs }
-{
-    let folder = env.get("AWS_DATA_PATH")?;
-    if has_colon(folder) {
-        None
-    } else {
-        Some(folder)
-    }
-}
-
-/// Whether a text has a colon, which separates folders.
-fn has_colon(text: &Text) -> bool
-    ensures { result ≡ has_colon text.now }
-{
-    text.as_str().as_bytes().contains(&b':')
+    let path = below(alloc, folder, service.as_str())?;
+    let versions = match list(alloc, files, &path) {
+        Ok(versions) => versions,
+        Err(refusal) => return Err(refusal),
+    };
+    newer_listed(alloc, files, &path, versions.as_slice(), newest)
 }
 
 /// Whether the name is in the list.
@@ -97,66 +90,88 @@ fn has_name(names: &List<Text>, name: &Text) -> bool
     names.as_slice().contains(name)
 }
 
-/// The model file of the last version that has one.
-fn newest<F: Files>(
+/// The greatest of the versions in a service's folder that has a model file, where it comes after
+/// the newest so far. The versions ascend.
+fn newer_listed<F: Files>(
     alloc: Global,
     files: &mut F,
     folder: &Text,
     versions: &[Text],
-) -> Result<Bytes, Unread>
+    newest: &Option<Version>,
+) -> Result<Option<Version>, Unread>
     ensures kept { F.holds files.new ≡ F.holds files.old }
-    ensures found { IfSome (F.holds files.old) (λ held. IfOk result
-        (λ bytes. last_some (model_at folder.now held) versions.now ≡ Some bytes)) }
-    ensures small { IfOk result (λ bytes. length bytes ≤ 33554432) }
-    ensures refused { IfSome (F.holds files.old) (λ held. IsErrOf result Unread.NotBuilt
-        → IsNoneOrLonger 33554432 (last_some (model_at folder.now held) versions.now)) }
-    ensures fault { IfErr result (FaultsAt (IsPathAmong folder.now versions.now)) }
+    ensures found { IfSome (F.holds files.old) (λ held. AllPairs IsBefore versions.now
+        → IfOk result (IsNewer (IsListed held folder.now versions.now) newest.now)) }
+    ensures path { IfErr result (FaultsAt (IsPathAmong folder.now versions.now)) }
     ensures cause { HasFileCause (F.faults files.old) (F.faults files.new) result }
 {
     let mut left = versions;
-    while let Some((version, smaller)) = left.split_last() {
-        let path = version_path(alloc, folder, version)?;
+    while let Some((name, smaller)) = left.split_last() {
+        if !comes_after(name, newest) {
+            return Ok(None);
+        }
+        let path = version_path(alloc, folder, name)?;
         match read(alloc, files, &path) {
-            Ok(Some(bytes)) => return Ok(bytes),
+            Ok(Some(file)) => return Ok(Some(named_version(alloc, name, file)?)),
             Ok(None) => left = smaller,
             Err(refusal) => return Err(refusal),
         }
     }
-    Err(Unread::NotBuilt)
+    Ok(None)
 }
 
-/// The names below a folder that is to be there.
+fn named_version(alloc: Global, name: &Text, file: ModelFile) -> Result<Version, OutOfMemory>
+    ensures name { IfOk result (λ version. version.name ≡ name.now) }
+    ensures file { IfOk result (λ version. version.file ≡ file) }
+{
+    Ok(Version {
+        name: name.copy(alloc)?,
+        file,
+    })
+}
+
+/// Whether a name comes after that of the newest version so far, in the order of bytes.
+fn comes_after(name: &Text, newest: &Option<Version>) -> bool
+    ensures after { IsTrue result → IsAfter (name_of newest.now) name.now }
+    ensures up_to { result ≡ false → IsUpTo (name_of newest.now) name.now }
+{
+    match newest {
+        None => true,
+        Some(version) => match name.as_str().cmp(version.name.as_str()) {
+            Ordering::Greater => true,
+            Ordering::Equal => false,
+            Ordering::Less => false,
+        },
+    }
+}
+
+/// The names below a folder: none where it isn't there.
 fn list<F: Files>(alloc: Global, files: &mut F, folder: &Text) -> Result<List<Text>, Unread>
     ensures kept { F.holds files.new ≡ F.holds files.old }
     ensures names { IfSome (F.holds files.old) (λ held. IfOk result (IsListing folder.now held)) }
-    ensures refused { IfSome (F.holds files.old)
-        (λ held. IsErrOf result Unread.NotBuilt → HasBelow folder.now held → ⊥) }
     ensures fault { IfErr result (FaultsAt (λ path. path ≡ folder.now)) }
     ensures cause { HasFileCause (F.faults files.old) (F.faults files.new) result }
 {
     match files.list(alloc, folder) {
         Ok(names) => Ok(names),
-        Err(FileEnd::Absent) => Err(Unread::NotBuilt),
+        Err(FileEnd::Absent) => Ok(List::new(alloc)),
         Err(FileEnd::TooLong) => unreachable!(),
         Err(FileEnd::Failed) => Err(Unread::FileFault(folder.copy(alloc)?)),
         Err(FileEnd::OutOfMemory) => Err(Unread::OutOfMemory),
     }
 }
 
-/// The bytes of a model file, where it is there.
-fn read<F: Files>(alloc: Global, files: &mut F, path: &Text) -> Result<Option<Bytes>, Unread>
+/// A model file, where it is there.
+fn read<F: Files>(alloc: Global, files: &mut F, path: &Text) -> Result<Option<ModelFile>, Unread>
     ensures kept { F.holds files.new ≡ F.holds files.old }
-    ensures found { IfSome (F.holds files.old) (λ held. IfOk result (λ found. file_at path.now held ≡ found)) }
-    ensures small { IfOk result (λ found. IfSome found (λ bytes. length bytes ≤ 33554432)) }
-    ensures refused { IfSome (F.holds files.old)
-        (λ held. IsErrOf result Unread.NotBuilt → IsLonger 33554432 (file_at path.now held)) }
+    ensures found { IfSome (F.holds files.old) (λ held. IfOk result (IsFileAt (file_at path.now held))) }
     ensures fault { IfErr result (FaultsAt (λ read. read ≡ path.now)) }
     ensures cause { HasFileCause (F.faults files.old) (F.faults files.new) result }
 {
     match files.read(alloc, path, MOST_MODEL_BYTES) {
-        Ok(bytes) => Ok(Some(bytes)),
+        Ok(bytes) => Ok(Some(ModelFile::Whole(bytes))),
         Err(FileEnd::Absent) => Ok(None),
-        Err(FileEnd::TooLong) => Err(Unread::NotBuilt),
+        Err(FileEnd::TooLong) => Ok(Some(ModelFile::TooLong)),
         Err(FileEnd::Failed) => Err(Unread::FileFault(path.copy(alloc)?)),
         Err(FileEnd::OutOfMemory) => Err(Unread::OutOfMemory),
     }

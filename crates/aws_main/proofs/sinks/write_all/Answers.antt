@@ -1,4 +1,4 @@
-use Rattle.std.proofs.Common.{◌≤◌, arith}
+use Rattle.std.proofs.Common.{arith}
 use Rattle.aws_world.proofs.Pieces.{tells_written_none, tells_written_more}
 use Rattle.aws_main.proofs.sinks.write_all.Goals as goal
 

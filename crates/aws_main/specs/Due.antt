@@ -1,0 +1,65 @@
+-- What is due of the words of a line and the files: a request, or why there is none.
+use Rattle.std.specs.Prelude.{◌≡◌, ℕ, List, Option, None, Some, Result, Ok, Err}
+use Rattle.service_model.specs.declared.model.Table.{Table}
+use Rattle.service_model.specs.declared.operation.Operation.{Operation}
+use Rattle.service_model.specs.declared.operation.Refusal.{Refusal}
+use Rattle.service_model.specs.Models.{operation_named}
+use Rattle.http_exchange.specs.Wire.{wire_of}
+use Rattle.aws_main.specs.declared.asking.Asked.{Asked}
+use Rattle.aws_main.specs.declared.causes.Unread.{Unread}
+use Rattle.aws_main.specs.declared.causes.Unread.TheVariants.{NotBuilt, Usage, NotAdmitted, OutOfMemory}
+use Rattle.aws_main.specs.declared.causes.UsageFault.TheVariants.{UnknownOperation}
+use Rattle.aws_main.specs.declared.plain_operations.PlainOperation.{PlainOperation}
+use Rattle.aws_main.specs.declared.planning.Planned.{Planned}
+use Rattle.aws_main.specs.Folder.{Held}
+use Rattle.aws_main.specs.Models.{IsModelOf}
+use Rattle.aws_main.specs.Plain.{plain_operation}
+use Rattle.aws_main.specs.Request.{message_of}
+use Rattle.aws_main.specs.Words.{asked_of}
+
+-- an operation, unless it can't be called
+abbrev pub unless_refused : Operation → Option Refusal → Result Operation Unread
+unless_refused operation None = Ok operation
+unless_refused operation (Some refusal) = Err (NotAdmitted refusal)
+
+abbrev pub known : List ℕ → Option Operation → Result Operation Unread
+known command None = Err (Usage (UnknownOperation command))
+known command (Some operation) = unless_refused operation operation.refusal
+
+-- the operation of a command, where the model has it and it can be called
+abbrev pub admitted : List ℕ → Table → Result Operation Unread
+admitted command model = known command (operation_named command model.operations)
+
+-- the request for what is asked for, where the operation is built
+abbrev pub request_for : Asked → Option PlainOperation → Result Planned Unread
+request_for asked None = Err NotBuilt
+request_for asked (Some operation) = Ok (record { asked = asked; operation = operation; request = wire_of (message_of asked operation) })
+
+abbrev pub request_of : Asked → Table → Result Operation Unread → Result Planned Unread
+request_of asked model (Err refusal) = Err refusal
+request_of asked model (Ok operation) = request_for asked (plain_operation model operation)
+
+-- what is due of what is asked for, by the service's model: the operation's name is looked up, then
+-- whether it can be called, then whether it is built
+abbrev pub due_by : Asked → Table → Result Planned Unread
+due_by asked model = request_of asked model (admitted asked.command model)
+
+abbrev pub due_of : Asked → Result Table Unread → Result Planned Unread
+due_of asked (Err refusal) = Err refusal
+due_of asked (Ok model) = due_by asked model
+
+-- what is due of words that ask for something, or for nothing that is built
+abbrev pub IsDueFor : Option Asked → Held → Option Held → Result Planned Unread → Type 0
+IsDueFor None env held due = due ≡ Err NotBuilt
+IsDueFor (Some asked) env held due = (model : Result Table Unread) × IsModelOf env held asked.service model × (due ≡ due_of asked model)
+
+-- what is due of the words of a line, the environment and the files: the words come first, then the
+-- service's model, then what it says of the operation
+abbrev pub IsDue : List (List ℕ) → Held → Option Held → Result Planned Unread → Type 0
+IsDue words env held due = IsDueFor (asked_of words) env held due
+
+-- the answer is what is due, seen by a view; want of memory is free
+abbrev pub Answers : {T U : Type 0} → (T → U) → Result U Unread → Result T Unread → Type 0
+Answers view due (Ok x) = due ≡ Ok (view x)
+Answers view due (Err OutOfMemory) = Unit {0}
+Answers view due (Err refusal) = due ≡ Err refusal
