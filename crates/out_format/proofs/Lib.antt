@@ -1,0 +1,11 @@
+pub mod Drawn
+pub mod FilledCells
+pub mod HeldCells
+pub mod Layering
+pub mod Literals
+pub mod Placing
+pub mod Rearranged
+pub mod ScalarsOnce
+pub mod SortedMembers
+pub mod TableParts
+pub mod TextParts

@@ -1,0 +1,10 @@
+pub mod Ascending
+pub mod Borrowed
+pub mod Cells
+pub mod Json
+pub mod Layers
+pub mod Members
+pub mod Scalars
+pub mod Sections
+pub mod Table
+pub mod Text
