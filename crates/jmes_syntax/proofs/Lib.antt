@@ -1,0 +1,11 @@
+pub mod DigitFronts
+pub mod Fronts
+pub mod Lengths
+pub mod LexLengths
+pub mod LexOnce
+pub mod LiteralValues
+pub mod NamedFunctions
+pub mod Once
+pub mod SegmentEnds
+pub mod Stopping
+pub mod Texts

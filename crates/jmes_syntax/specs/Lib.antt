@@ -1,0 +1,14 @@
+pub mod Brackets
+pub mod Chains
+pub mod Delimited
+pub mod Functions
+pub mod Lexing
+pub mod Literals
+pub mod Marks
+pub mod Numbers
+pub mod Paths
+pub mod Reading
+pub mod Scan
+pub mod Scans
+pub mod Tokens
+pub mod Words

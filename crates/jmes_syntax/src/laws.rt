@@ -1,0 +1,19 @@
+//! What is true of every text, whichever is read.
+ghost use Rattle.std.specs.Prelude.{◌≡◌, ℕ, List, Some};
+ghost use Rattle.jmes_syntax.specs.declared.expr.Expr.{Expr};
+ghost use Rattle.jmes_syntax.specs.declared.function.Function.{Function};
+ghost use Rattle.jmes_syntax.specs.declared.parse_fault.ParseFault.{ParseFault};
+ghost use Rattle.jmes_syntax.specs.Functions.{name_of, function_named};
+ghost use Rattle.jmes_syntax.specs.Scans.{Expression, HasFault};
+
+/// A text is one expression at most, and then it has no fault; or it has one fault at most.
+pub fn parsing_is_unique()
+    ensures expression { (text : List ℕ) (d e : Expr) → Expression text d → Expression text e → d ≡ e }
+    ensures no_fault { (text : List ℕ) (e : Expr) (f : ParseFault) → Expression text e → HasFault text f → ⊥ }
+    ensures fault { (text : List ℕ) (f g : ParseFault) → HasFault text f → HasFault text g → f ≡ g }
+{}
+
+/// Each function is found by its name.
+pub fn function_is_named()
+    ensures { (f : Function) → function_named (name_of f) ≡ Some f }
+{}

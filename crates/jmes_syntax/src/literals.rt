@@ -1,0 +1,109 @@
+ghost use Rattle.std.specs.Prelude.{◌≡◌, ◌≤◌, ℕ, List, length, IfOk, IfSome, IfNone};
+ghost use Rattle.json_doc.specs.Grammar.{is_blank};
+ghost use Rattle.json_doc.specs.Scan.{skipped};
+ghost use Rattle.jmes_syntax.specs.Literals.{in_quotes, StringOf, LiteralOf, TextOf, ValueOf};
+
+use crate::delimited::Quote;
+use crate::token::Token;
+use json_doc::{Bytes, Doc, OutOfMemory, ReadFault, Text, read};
+use std::alloc::Global;
+use std::str;
+
+fn is_blank(byte: u8) -> bool
+    ensures { result ≡ is_blank byte }
+{
+    byte == b' ' || byte == b'\t' || byte == b'\n' || byte == b'\r'
+}
+
+/// The bytes without the blanks in front.
+pub fn skip_blanks(bytes: &[u8]) -> &[u8]
+    ensures value { result.now ≡ skipped bytes.now }
+    ensures within { length result.now ≤ length bytes.now }
+{
+    for (at, byte) in bytes.iter().enumerate() {
+        if !is_blank(*byte) {
+            return &bytes[at..];
+        }
+    }
+    &bytes[bytes.len()..]
+}
+
+fn in_quotes(alloc: Global, text: &[u8]) -> Result<Bytes, OutOfMemory>
+    ensures { IfOk result (λ made. made ≡ in_quotes text.now) }
+{
+    let mut made = Bytes::new(alloc);
+    made.extend(b"\"")?;
+    made.extend(text)?;
+    made.extend(b"\"")?;
+    Ok(made)
+}
+
+fn into_text(doc: Doc) -> Option<Text>
+    ensures some { IfSome result (λ t. doc ≡ Doc.Str t) }
+    ensures none { IfNone result ((t : List ℕ) → doc ≡ Doc.Str t → ⊥) }
+{
+    match doc {
+        Doc::Str(text) => Some(text),
+        _ => None,
+    }
+}
+
+// The JSON string whose inside this is.
+fn string_of(alloc: Global, inside: &[u8]) -> Result<Option<Text>, OutOfMemory>
+    ensures { IfOk result (StringOf inside.now) }
+{
+    let quoted = in_quotes(alloc, inside)?;
+    match read(alloc, quoted.as_slice()) {
+        Ok(doc) => Ok(into_text(doc)),
+        Err(ReadFault::Syntax(_)) => Ok(None),
+        Err(ReadFault::TooDeep(_)) => Ok(None),
+        Err(ReadFault::NumberTooWide(_)) => Ok(None),
+        Err(ReadFault::OutOfMemory) => Err(OutOfMemory),
+    }
+}
+
+// The document of a literal, or else the JSON string of its text.
+fn literal_of(alloc: Global, text: &[u8]) -> Result<Option<Doc>, OutOfMemory>
+    ensures { IfOk result (LiteralOf text.now) }
+{
+    match read(alloc, text) {
+        Ok(doc) => Ok(Some(doc)),
+        Err(ReadFault::Syntax(_)) => match string_of(alloc, skip_blanks(text))? {
+            Some(string) => Ok(Some(Doc::Str(string))),
+            None => Ok(None),
+        },
+        Err(ReadFault::TooDeep(_)) => Ok(None),
+        Err(ReadFault::NumberTooWide(_)) => Ok(None),
+        Err(ReadFault::OutOfMemory) => Err(OutOfMemory),
+    }
+}
+
+// The text of these bytes, where they are UTF-8.
+fn text_of(alloc: Global, bytes: &[u8]) -> Result<Option<Text>, OutOfMemory>
+    ensures { IfOk result (TextOf bytes.now) }
+{
+    match str::from_utf8(bytes) {
+        Ok(text) => Ok(Some(Text::from_str(alloc, text)?)),
+        Err(_) => Ok(None),
+    }
+}
+
+/// The token of what stands between these quotes.
+pub fn value_token(alloc: Global, quote: Quote, value: Bytes) -> Result<Option<Token>, OutOfMemory>
+    ensures { IfOk result (ValueOf quote value) }
+{
+    match quote {
+        Quote::Name => match string_of(alloc, value.as_slice())? {
+            Some(name) => Ok(Some(Token::Quoted(name))),
+            None => Ok(None),
+        },
+        Quote::Literal => match literal_of(alloc, value.as_slice())? {
+            Some(doc) => Ok(Some(Token::Literal(doc))),
+            None => Ok(None),
+        },
+        Quote::Raw => match text_of(alloc, value.as_slice())? {
+            Some(text) => Ok(Some(Token::Literal(Doc::Str(text)))),
+            None => Ok(None),
+        },
+    }
+}
