@@ -1,5 +1,7 @@
 use super::{document, model_text, text};
-use crate::{Kind, Location, Model, Protocol, TimeForm};
+use crate::{Kind, Location, Member, Model, Operation, Protocol, Shape, ShapeId, TimeForm};
+use std::alloc::Global;
+use std::process::Abort;
 use std::test::Fail;
 
 const METADATA: &str =
@@ -14,40 +16,87 @@ const SHAPES: &str =
 "T":{"type":"character"},"Time":{"type":"timestamp"},"Count":{"type":"integer","min":1},"Big":{"type":"bigDecimal","min":-9223372036854775808},
 "Tags":{"type":"map","key":{"shape":"T"},"value":{"shape":"Count"},"min":9223372036854775808}}"#;
 
-#[test]
-fn whole_model(rt: HostRuntime) -> Result<(), Fail> {
-    let alloc = rt.alloc();
+/// The model of the depot, read.
+fn depot(rt: &impl Abort, alloc: Global) -> Result<Model, Fail> {
     let file = model_text(alloc, METADATA, OPERATIONS, SHAPES)?;
-    let model = Model::read(alloc, &document(&rt, alloc, file.as_str()))?;
+    let doc = document(rt, alloc, file.as_str());
+    Ok(Model::read(alloc, &doc)?)
+}
+
+/// The operation `get-item` of the model.
+fn get_item<'a>(rt: &impl Abort, alloc: Global, model: &'a Model) -> Result<&'a Operation, Fail> {
+    let command = text(alloc, "get-item")?;
+    Ok(model.operation(&command).expect(rt, "an operation"))
+}
+
+/// The shape of a number that is there.
+fn shape<'a>(rt: &impl Abort, model: &'a Model, id: Option<ShapeId>) -> &'a Shape {
+    let id = id.expect(rt, "a number");
+    assert!(rt; id.0 < model.shape_count());
+    model.shape(id)
+}
+
+fn member<'a>(rt: &impl Abort, shape: &'a Shape, at: usize) -> &'a Member {
+    shape.members.get(at).expect(rt, "a member")
+}
+
+#[test]
+fn service_is_read(rt: HostRuntime) -> Result<(), Fail> {
+    let model = depot(&rt, rt.alloc())?;
     assert_eq!(&rt; model.metadata().protocol, Protocol::RestJson);
     assert_eq!(&rt; model.metadata().json_version.as_str(), "");
     assert_eq!(&rt; model.shape_count(), 7);
-    let op = model
-        .operation(&text(alloc, "get-item")?)
-        .expect(&rt, "an operation");
+    let name = text(rt.alloc(), "GetItem")?;
+    assert!(&rt; model.operation(&name).is_none());
+    Ok(())
+}
+
+#[test]
+fn operation_is_read(rt: HostRuntime) -> Result<(), Fail> {
+    let model = depot(&rt, rt.alloc())?;
+    let op = get_item(&rt, rt.alloc(), &model)?;
     assert_eq!(&rt; op.method.as_str(), "GET");
     assert_eq!(&rt; op.fixed_params.len(), 1);
     assert!(&rt; !op.unsigned);
-    let input = model.shape(op.input.expect(&rt, "an input"));
+    Ok(())
+}
+
+#[test]
+fn input_is_read(rt: HostRuntime) -> Result<(), Fail> {
+    let model = depot(&rt, rt.alloc())?;
+    let op = get_item(&rt, rt.alloc(), &model)?;
+    let input = shape(&rt, &model, op.input);
     assert_eq!(&rt; input.kind, Kind::Structure);
     assert_eq!(&rt; input.required.len(), 1);
-    let name = input.members.get(0).expect(&rt, "a member");
+    let since = member(&rt, input, 3);
+    assert_eq!(&rt; since.time, Some(TimeForm::Rfc822));
+    let token = member(&rt, input, 4);
+    assert!(&rt; token.token);
+    assert!(&rt; token.context.is_some());
+    Ok(())
+}
+
+#[test]
+fn names_are_read(rt: HostRuntime) -> Result<(), Fail> {
+    let model = depot(&rt, rt.alloc())?;
+    let op = get_item(&rt, rt.alloc(), &model)?;
+    let name = member(&rt, shape(&rt, &model, op.input), 0);
     assert_eq!(&rt; name.name.as_str(), "Name");
     assert_eq!(&rt; name.wire.as_str(), "name");
     assert_eq!(&rt; name.location, Some(Location::Uri));
-    assert_eq!(&rt; model.shape(name.shape).kind, Kind::Str);
-    let since = input.members.get(3).expect(&rt, "a member");
-    assert_eq!(&rt; since.time, Some(TimeForm::Rfc822));
-    let token = input.members.get(4).expect(&rt, "a member");
-    assert!(&rt; token.token);
-    assert!(&rt; token.context.is_some());
-    let output = model.shape(op.output.expect(&rt, "an output"));
+    assert_eq!(&rt; shape(&rt, &model, Some(name.shape)).kind, Kind::Str);
+    Ok(())
+}
+
+#[test]
+fn output_is_read(rt: HostRuntime) -> Result<(), Fail> {
+    let model = depot(&rt, rt.alloc())?;
+    let op = get_item(&rt, rt.alloc(), &model)?;
+    let output = shape(&rt, &model, op.output);
     assert!(&rt; output.is_union);
-    let tags = model.shape(output.members.get(1).expect(&rt, "a member").shape);
+    let tags = shape(&rt, &model, Some(member(&rt, output, 1).shape));
     assert_eq!(&rt; tags.kind, Kind::Map);
     assert_eq!(&rt; tags.min, None);
-    let count = model.shape(tags.item.expect(&rt, "values"));
-    assert_eq!(&rt; count.min, Some(1));
-    assert!(&rt; model.operation(&text(alloc, "GetItem")?).is_none());
+    assert_eq!(&rt; shape(&rt, &model, tags.item).min, Some(1));
     Ok(())
 }

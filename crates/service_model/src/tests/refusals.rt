@@ -22,10 +22,10 @@ const GO: &str =
 const PLAIN: &str =
     r#"{"In":{"type":"structure","members":{}},"Out":{"type":"structure","members":{}}}"#;
 
-/// The refusal of an operation that says more of itself.
-fn of_operation(operations: &'static str, refusal: &'static str) -> Row {
+/// The refusal of an operation by what it and its service say.
+fn of_operation(metadata: &'static str, operations: &'static str, refusal: &'static str) -> Row {
     Row {
-        metadata: V4,
+        metadata,
         operations,
         shapes: PLAIN,
         refusal,
@@ -69,117 +69,130 @@ fn check(rt: &impl Abort, alloc: Global, row: &Row) -> Result<(), Fail> {
     Ok(())
 }
 
+/// What a service and its operation say, and why the operation can't be called.
+const BY_OPERATIONS: [(&str, &str, &str); 12] = [
+    (V4, GO, ""),
+    (
+        r#"{"protocol":"query","endpointPrefix":"s"}"#,
+        GO,
+        "Protocol",
+    ),
+    (
+        r#"{"protocol":"rest-json","endpointPrefix":"s","signatureVersion":"v2"}"#,
+        GO,
+        "Signature",
+    ),
+    (
+        r#"{"protocol":"rest-json","endpointPrefix":"s","signatureVersion":"v2"}"#,
+        r#"{"Go":{"name":"Go","http":{"method":"GET","requestUri":"/"},"authtype":"none"}}"#,
+        "",
+    ),
+    (
+        V4,
+        r#"{"Go":{"name":"Go","http":{"method":"GET","requestUri":"/"},"auth":["smithy.api#noAuth"]}}"#,
+        "",
+    ),
+    (
+        V4,
+        r#"{"Go":{"name":"Go","http":{"method":"GET","requestUri":"/"},"auth":["aws.auth#sigv4a"]}}"#,
+        "Signature",
+    ),
+    (
+        V4,
+        r#"{"Go":{"name":"Go","http":{"method":"GET","requestUri":"/"},"auth":["aws.auth#sigv4a","aws.auth#sigv4"]}}"#,
+        "",
+    ),
+    (
+        V4,
+        r#"{"Go":{"name":"Go","http":{"method":"GET","requestUri":"/"},"authtype":"v4-unsigned-body"}}"#,
+        "Signature",
+    ),
+    (
+        V4,
+        r#"{"Go":{"name":"Go","http":{"method":"GET","requestUri":"/"},"httpChecksumRequired":true,"endpointdiscovery":{"required":true}}}"#,
+        "Checksum",
+    ),
+    (
+        V4,
+        r#"{"Go":{"name":"Go","http":{"method":"GET","requestUri":"/"},"httpChecksum":{"requestChecksumRequired":true}}}"#,
+        "Checksum",
+    ),
+    (
+        V4,
+        r#"{"Go":{"name":"Go","http":{"method":"GET","requestUri":"/"},"endpointdiscovery":{"required":true}}}"#,
+        "Discovery",
+    ),
+    (
+        V4,
+        r#"{"Go":{"name":"Go","http":{"method":"GET","requestUri":"/"},"endpointdiscovery":{"required":false}}}"#,
+        "",
+    ),
+];
+
 #[test]
 fn refusals_of_operations(rt: HostRuntime) -> Result<(), Fail> {
-    let rows = [
-        of_operation(GO, ""),
-        Row {
-            metadata: r#"{"protocol":"query","endpointPrefix":"s"}"#,
-            operations: GO,
-            shapes: PLAIN,
-            refusal: "Protocol",
-        },
-        Row {
-            metadata: r#"{"protocol":"rest-json","endpointPrefix":"s","signatureVersion":"v2"}"#,
-            operations: GO,
-            shapes: PLAIN,
-            refusal: "Signature",
-        },
-        Row {
-            metadata: r#"{"protocol":"rest-json","endpointPrefix":"s","signatureVersion":"v2"}"#,
-            operations: r#"{"Go":{"name":"Go","http":{"method":"GET","requestUri":"/"},"authtype":"none"}}"#,
-            shapes: PLAIN,
-            refusal: "",
-        },
-        of_operation(
-            r#"{"Go":{"name":"Go","http":{"method":"GET","requestUri":"/"},"auth":["smithy.api#noAuth"]}}"#,
-            "",
-        ),
-        of_operation(
-            r#"{"Go":{"name":"Go","http":{"method":"GET","requestUri":"/"},"auth":["aws.auth#sigv4a"]}}"#,
-            "Signature",
-        ),
-        of_operation(
-            r#"{"Go":{"name":"Go","http":{"method":"GET","requestUri":"/"},"auth":["aws.auth#sigv4a","aws.auth#sigv4"]}}"#,
-            "",
-        ),
-        of_operation(
-            r#"{"Go":{"name":"Go","http":{"method":"GET","requestUri":"/"},"authtype":"v4-unsigned-body"}}"#,
-            "Signature",
-        ),
-        of_operation(
-            r#"{"Go":{"name":"Go","http":{"method":"GET","requestUri":"/"},"httpChecksumRequired":true,"endpointdiscovery":{"required":true}}}"#,
-            "Checksum",
-        ),
-        of_operation(
-            r#"{"Go":{"name":"Go","http":{"method":"GET","requestUri":"/"},"httpChecksum":{"requestChecksumRequired":true}}}"#,
-            "Checksum",
-        ),
-        of_operation(
-            r#"{"Go":{"name":"Go","http":{"method":"GET","requestUri":"/"},"endpointdiscovery":{"required":true}}}"#,
-            "Discovery",
-        ),
-        of_operation(
-            r#"{"Go":{"name":"Go","http":{"method":"GET","requestUri":"/"},"endpointdiscovery":{"required":false}}}"#,
-            "",
-        ),
-    ];
-    for row in &rows {
-        check(&rt, rt.alloc(), row)?;
+    for (metadata, operations, refusal) in &BY_OPERATIONS {
+        check(
+            &rt,
+            rt.alloc(),
+            &of_operation(metadata, operations, refusal),
+        )?;
     }
     Ok(())
 }
 
+/// Shapes, and why an operation over them can't be called.
+const BY_SHAPES: [(&str, &str); 11] = [
+    (
+        r#"{"In":{"type":"structure","members":{}},"Out":{"type":"structure","members":{"A":{"shape":"L"}}},"L":{"type":"list","member":{"shape":"M"}},"M":{"type":"map","key":{"shape":"T"},"value":{"shape":"E"}},"E":{"type":"structure","members":{"A":{"shape":"L"}},"eventstream":true},"T":{"type":"string"}}"#,
+        "Events",
+    ),
+    (
+        r#"{"In":{"type":"structure","members":{"A":{"shape":"In"}}},"Out":{"type":"structure","members":{}},"E":{"type":"structure","members":{"A":{"shape":"In"}},"eventstream":true}}"#,
+        "",
+    ),
+    (
+        r#"{"In":{"type":"structure","members":{"A":{"shape":"T","jsonvalue":true}}},"Out":{"type":"structure","members":{}},"T":{"type":"string"}}"#,
+        "JsonValue",
+    ),
+    (
+        r#"{"In":{"type":"structure","members":{"A":{"shape":"T","jsonvalue":true,"location":"header"}}},"Out":{"type":"structure","members":{}},"T":{"type":"string"}}"#,
+        "",
+    ),
+    (
+        r#"{"In":{"type":"structure","members":{"A":{"shape":"T","jsonvalue":true,"location":"header"}}},"Out":{"type":"structure","members":{}},"T":{"type":"integer"}}"#,
+        "JsonValue",
+    ),
+    (
+        r#"{"In":{"type":"structure","members":{"B":{"shape":"B"}},"payload":"B"},"Out":{"type":"structure","members":{"A":{"shape":"T"},"B":{"shape":"B"}},"payload":"B"},"T":{"type":"string"},"B":{"type":"blob"}}"#,
+        "BlobOutput",
+    ),
+    (
+        r#"{"In":{"type":"structure","members":{"B":{"shape":"B"}},"payload":"B"},"Out":{"type":"structure","members":{"A":{"shape":"T"},"B":{"shape":"B"}},"payload":"A"},"T":{"type":"string"},"B":{"type":"blob"}}"#,
+        "",
+    ),
+    (
+        r#"{"In":{"type":"structure","members":{"A":{"shape":"T"},"BookId":{"shape":"T"},"book-id":{"shape":"T"}}},"Out":{"type":"structure","members":{}},"T":{"type":"string"}}"#,
+        "SameArgument book-id",
+    ),
+    (
+        r#"{"In":{"type":"structure","members":{"NoDry":{"shape":"T"},"Dry":{"shape":"F"}}},"Out":{"type":"structure","members":{}},"T":{"type":"string"},"F":{"type":"boolean"}}"#,
+        "SameArgument no-dry",
+    ),
+    (
+        r#"{"In":{"type":"structure","members":{"Dry":{"shape":"F"},"NoDry":{"shape":"T"}}},"Out":{"type":"structure","members":{}},"T":{"type":"string"},"F":{"type":"boolean"}}"#,
+        "SameArgument dry",
+    ),
+    (
+        r#"{"In":{"type":"structure","members":{"Dry":{"shape":"T"},"NoDry":{"shape":"F"}}},"Out":{"type":"structure","members":{}},"T":{"type":"string"},"F":{"type":"boolean"}}"#,
+        "",
+    ),
+];
+
 #[test]
 fn refusals_by_shapes(rt: HostRuntime) -> Result<(), Fail> {
-    let rows = [
-        of_shapes(
-            r#"{"In":{"type":"structure","members":{}},"Out":{"type":"structure","members":{"A":{"shape":"L"}}},"L":{"type":"list","member":{"shape":"M"}},"M":{"type":"map","key":{"shape":"T"},"value":{"shape":"E"}},"E":{"type":"structure","members":{"A":{"shape":"L"}},"eventstream":true},"T":{"type":"string"}}"#,
-            "Events",
-        ),
-        of_shapes(
-            r#"{"In":{"type":"structure","members":{"A":{"shape":"In"}}},"Out":{"type":"structure","members":{}},"E":{"type":"structure","members":{"A":{"shape":"In"}},"eventstream":true}}"#,
-            "",
-        ),
-        of_shapes(
-            r#"{"In":{"type":"structure","members":{"A":{"shape":"T","jsonvalue":true}}},"Out":{"type":"structure","members":{}},"T":{"type":"string"}}"#,
-            "JsonValue",
-        ),
-        of_shapes(
-            r#"{"In":{"type":"structure","members":{"A":{"shape":"T","jsonvalue":true,"location":"header"}}},"Out":{"type":"structure","members":{}},"T":{"type":"string"}}"#,
-            "",
-        ),
-        of_shapes(
-            r#"{"In":{"type":"structure","members":{"A":{"shape":"T","jsonvalue":true,"location":"header"}}},"Out":{"type":"structure","members":{}},"T":{"type":"integer"}}"#,
-            "JsonValue",
-        ),
-        of_shapes(
-            r#"{"In":{"type":"structure","members":{"B":{"shape":"B"}},"payload":"B"},"Out":{"type":"structure","members":{"A":{"shape":"T"},"B":{"shape":"B"}},"payload":"B"},"T":{"type":"string"},"B":{"type":"blob"}}"#,
-            "BlobOutput",
-        ),
-        of_shapes(
-            r#"{"In":{"type":"structure","members":{"B":{"shape":"B"}},"payload":"B"},"Out":{"type":"structure","members":{"A":{"shape":"T"},"B":{"shape":"B"}},"payload":"A"},"T":{"type":"string"},"B":{"type":"blob"}}"#,
-            "",
-        ),
-        of_shapes(
-            r#"{"In":{"type":"structure","members":{"A":{"shape":"T"},"BookId":{"shape":"T"},"book-id":{"shape":"T"}}},"Out":{"type":"structure","members":{}},"T":{"type":"string"}}"#,
-            "SameArgument book-id",
-        ),
-        of_shapes(
-            r#"{"In":{"type":"structure","members":{"NoDry":{"shape":"T"},"Dry":{"shape":"F"}}},"Out":{"type":"structure","members":{}},"T":{"type":"string"},"F":{"type":"boolean"}}"#,
-            "SameArgument no-dry",
-        ),
-        of_shapes(
-            r#"{"In":{"type":"structure","members":{"Dry":{"shape":"F"},"NoDry":{"shape":"T"}}},"Out":{"type":"structure","members":{}},"T":{"type":"string"},"F":{"type":"boolean"}}"#,
-            "SameArgument dry",
-        ),
-        of_shapes(
-            r#"{"In":{"type":"structure","members":{"Dry":{"shape":"T"},"NoDry":{"shape":"F"}}},"Out":{"type":"structure","members":{}},"T":{"type":"string"},"F":{"type":"boolean"}}"#,
-            "",
-        ),
-    ];
-    for row in &rows {
-        check(&rt, rt.alloc(), row)?;
+    for (shapes, refusal) in &BY_SHAPES {
+        check(&rt, rt.alloc(), &of_shapes(shapes, refusal))?;
     }
     Ok(())
 }
