@@ -22,21 +22,21 @@ use Rattle.json_doc.proofs.Once.{behind-is, other-behind, no_mark}
 use Rattle.json_doc.proofs.Sound.{Ws-skipped, past-is, IfOk-bind}
 
 -- where a value may end: at the end of the bytes, a blank, a comma or a closing bracket
-abbrev MayEnd : List ℕ → Type 0
+abbrev pub MayEnd : List ℕ → Type 0
 MayEnd [] = Unit {0}
 MayEnd (b ∷ bs) = IsTrue (is_blank b || b == 44 || b == 93 || b == 125)
 
-ends_blank : (ws rest : List ℕ) → AllByRecursion (λ b. IsTrue (is_blank b)) ws → MayEnd rest → MayEnd (ws ++ rest)
+pub ends_blank : (ws rest : List ℕ) → AllByRecursion (λ b. IsTrue (is_blank b)) ws → MayEnd rest → MayEnd (ws ++ rest)
 ends_blank [] rest h e = e
 ends_blank (b ∷ ws) rest h e = ap (λ v. v || b == 44 || b == 93 || b == 125) h.0
 
 taken : {A : Type 0} (b : Bool) (x y : A) → b ≡ true → (if b then x else y) ≡ x
 taken b x y e = ap (λ v. if v then x else y) e
 
-left_out : {A : Type 0} (b : Bool) (x y : A) → b ≡ false → (if b then x else y) ≡ y
+pub left_out : {A : Type 0} (b : Bool) (x y : A) → b ≡ false → (if b then x else y) ≡ y
 left_out b x y e = ap (λ v. if v then x else y) e
 
-text-read : (bs t rest : List ℕ) → String bs t rest → (ks : List ℕ) × (bs ≡ 34 ∷ ks) × (text_at ks ≡ Ok (t, rest))
+pub text-read : (bs t rest : List ℕ) → String bs t rest → (ks : List ℕ) × (bs ≡ 34 ∷ ks) × (text_at ks ≡ Ok (t, rest))
 text-read bs t rest (chars, e, h) = (chars, e, text_at-spelled chars t rest h)
 
 -- a byte at which a value may end passes no test that none of them passes
@@ -55,7 +55,7 @@ follows-ends parts rest ends =
     let point = ends-test (λ b. b == 0x2E) rest refl refl refl refl refl refl refl refl ends in
     record { int = λ _ _. (eqb-false (slice_index rest 0) 0x2E point, inr digit); frac = λ _ _. digit; mark = λ _. mark; exp = λ _. digit }
 
-number-read : (parts : Number) (spelled rest : List ℕ) → SpellsNumber parts spelled → MayEnd rest → number_at (spelled ++ rest) ≡ Ok (parts, rest)
+pub number-read : (parts : Number) (spelled rest : List ℕ) → SpellsNumber parts spelled → MayEnd rest → number_at (spelled ++ rest) ≡ Ok (parts, rest)
 number-read parts spelled rest spells ends = number_at-spelled parts spelled rest spells (follows-ends parts rest ends)
 
 digits-begin : (ds more : List ℕ) → IsDigits ds → begins_number (ds ++ more) ≡ true
@@ -66,7 +66,7 @@ digits-begin (d ∷ ds) more h = ap (λ v. d == 45 || v) (digit_is d h.1.0) ∙ 
     or_true true = refl
     or_true false = refl
 
-spelled-begins : (parts : Number) (spelled rest : List ℕ) → SpellsNumber parts spelled → begins_number (spelled ++ rest) ≡ true
+pub spelled-begins : (parts : Number) (spelled rest : List ℕ) → SpellsNumber parts spelled → begins_number (spelled ++ rest) ≡ true
 spelled-begins parts spelled rest spells =
     let regrouped : spelled ++ rest ≡ minus parts.is_negative ++ (parts.int ++ (spells.frac ++ (spells.exp ++ rest))) = ap (λ cs. cs ++ rest) spells.whole ∙ simp append_assoc in
     subst (λ cs. begins_number cs ≡ true) (sym regrouped)
@@ -77,7 +77,7 @@ blank_starts b blank start =
     let at = λ (c : ℕ) (h : is_number_start c ≡ false) (e : b == c ≡ true). false≢true (sym h ∙ subst (λ x. is_number_start x ≡ true) (eqb-true b c e) start) in
     ⊎_elim (λ bs. ⊎_elim (λ bs. ⊎_elim (at 32 refl) (at 9 refl) (or_cases _ _ bs)) (at 10 refl) (or_cases _ _ bs)) (at 13 refl) (or_cases _ _ blank)
 
-number-skipped : (bs : List ℕ) → begins_number bs ≡ true → skipped bs ≡ bs
+pub number-skipped : (bs : List ℕ) → begins_number bs ≡ true → skipped bs ≡ bs
 number-skipped [] begins = refl
 number-skipped (b ∷ bs) begins =
     elim (is_blank b) as (λ v. is_blank b ≡ v → (if v then skipped bs else b ∷ bs) ≡ b ∷ bs) [ true ↦ (λ e. absurd (blank_starts b e begins)) | false ↦ (λ e. refl) ] refl
@@ -121,7 +121,7 @@ members_open (Members.last_member {bs = bs} e v f) = IfOk-at_ok _ e (key_opens b
 members_open (Members.more_members {bs = bs} {o = o} e v f g ms) = always o (behind 125 bs ≡ None) (IfOk-at_ok _ e (key_opens bs))
 members_open (Members.open_object e v f g) = tt
 
-behind-same : (c : ℕ) (bs : List ℕ) → behind c (c ∷ bs) ≡ Some bs
+pub behind-same : (c : ℕ) (bs : List ℕ) → behind c (c ∷ bs) ≡ Some bs
 behind-same c bs = taken (c == c) (Some bs) None (eq-eqb c c refl)
 
 -- the bytes without blanks begin with a structural character
@@ -130,10 +130,10 @@ marked c bs ws rest dark (cs, before, after) e =
     let front : skipped bs ≡ c ∷ cs = e ∙ Ws-skipped ws (c ∷ cs) before ∙ left_out (is_blank c) (skipped cs) (c ∷ cs) dark in
     (cs, subst (λ vs. behind c vs ≡ Some cs) (sym front) (behind-same c cs), Ws-skipped cs rest after)
 
-marked_ends : (c : ℕ) (ws rest : List ℕ) → (is_blank c || c == 44 || c == 93 || c == 125) ≡ true → Structural c ws rest → MayEnd ws
+pub marked_ends : (c : ℕ) (ws rest : List ℕ) → (is_blank c || c == 44 || c == 93 || c == 125) ≡ true → Structural c ws rest → MayEnd ws
 marked_ends c ws rest h (cs, (blanks, all, e), after) = subst MayEnd (sym e) (ends_blank blanks (c ∷ cs) all h)
 
-key-read : (bs t ws vs : List ℕ) → String bs t ws → Structural 58 ws vs → key_at (skipped bs) ≡ Ok (t, skipped vs)
+pub key-read : (bs t ws vs : List ℕ) → String bs t ws → Structural 58 ws vs → key_at (skipped bs) ≡ Ok (t, skipped vs)
 key-read bs t ws vs key colon =
     let h = text-read bs t ws key in
     let m = marked 58 ws ws vs refl colon refl in

@@ -4,6 +4,7 @@ pub mod DecimalOrder
 pub mod DecimalSum
 pub mod Decimals
 pub mod DigitLists
+pub mod DueParts
 pub mod Escapes
 pub mod EscapesAgain
 pub mod Gathering
@@ -20,6 +21,7 @@ pub mod NumberScans
 pub mod NumbersAgain
 pub mod NumbersWritten
 pub mod Once
+pub mod PassedTexts
 pub mod Places
 pub mod Plain
 pub mod ProperDocuments

@@ -49,16 +49,16 @@ past-is c [] = tt
 past-is c (b ∷ bs) = either (λ o. IfOk o (λ rest. b ∷ bs ≡ c ∷ rest)) (b == c) (Ok bs) (Err (Syntax (length (b ∷ bs)))) (λ e. ap (λ x. x ∷ bs) (eqb-true b c e)) (λ e. tt)
 
 -- a structural character and the blanks around it
-mark : (c : ℕ) (bs ws : List ℕ) → behind c (skipped bs) ≡ Some ws → Structural c bs (skipped ws)
+pub mark : (c : ℕ) (bs ws : List ℕ) → behind c (skipped bs) ≡ Some ws → Structural c bs (skipped ws)
 mark c bs ws e = (ws, subst (Ws bs) (behind-is c (skipped bs) ws e) (skipped-Ws bs), skipped-Ws ws)
 
-last_mark : (c : ℕ) (bs ws : List ℕ) → behind c (skipped bs) ≡ Some ws → Structural c bs ws
+pub last_mark : (c : ℕ) (bs ws : List ℕ) → behind c (skipped bs) ≡ Some ws → Structural c bs ws
 last_mark c bs ws e = (ws, subst (Ws bs) (behind-is c (skipped bs) ws e) (skipped-Ws bs), no_blanks ws)
 
-first_mark : (c : ℕ) (bs ws : List ℕ) → behind c bs ≡ Some ws → Structural c bs (skipped ws)
+pub first_mark : (c : ℕ) (bs ws : List ℕ) → behind c bs ≡ Some ws → Structural c bs (skipped ws)
 first_mark c bs ws e = (ws, subst (Ws bs) (behind-is c bs ws e) (no_blanks bs), skipped-Ws ws)
 
-empty_mark : (c : ℕ) (bs ws : List ℕ) → behind c bs ≡ Some ws → Structural c bs ws
+pub empty_mark : (c : ℕ) (bs ws : List ℕ) → behind c bs ≡ Some ws → Structural c bs ws
 empty_mark c bs ws e = (ws, subst (Ws bs) (behind-is c bs ws e) (no_blanks bs), no_blanks ws)
 
 past_mark : (c : ℕ) (bs : List ℕ) → IfOk (past c (skipped bs)) (λ ws. Structural c bs (skipped ws))
@@ -85,7 +85,7 @@ IfOk-from (Err stop) P f = tt
 text-is : (bs : List ℕ) → IfOk (text_at bs) (λ x. String (34 ∷ bs) x.0 x.1)
 text-is bs = IfOk-from (text_at bs) (λ x. String (34 ∷ bs) x.0 x.1) (λ x e. (bs, refl, text_at_ok bs x e))
 
-key-is : (bs : List ℕ) → IfOk (key_at bs) (λ x. (ws : List ℕ) × String bs x.0 ws × Structural 58 ws x.1)
+pub key-is : (bs : List ℕ) → IfOk (key_at bs) (λ x. (ws : List ℕ) × String bs x.0 ws × Structural 58 ws x.1)
 key-is bs =
     IfOk-bind (past 34 bs) _ (λ ks. bs ≡ 34 ∷ ks) _ (past-is 34 bs) (λ ks e.
     IfOk-bind (text_at ks) _ (λ x. String (34 ∷ ks) x.0 x.1) _ (text-is ks) (λ x h.
@@ -98,7 +98,7 @@ named-is n c d word bs b value e =
     IfOk-bind (past_word word bs) (λ rest. Ok (d, rest)) (λ rest. bs ≡ word ++ rest) (λ x. g.Value n (b ∷ bs) x.0 x.1) (past_word-is word bs)
     (λ rest f. subst (λ cs. g.Value n cs d rest) (sym (ap (λ cs. b ∷ cs) f ∙ ap (λ a. a ∷ word ++ rest) (eqb-true b c e))) (value rest))
 
-scalar-is : (n : ℕ) (bs : List ℕ) → IfOk (scalar_at bs) (λ x. g.Value n bs x.0 x.1)
+pub scalar-is : (n : ℕ) (bs : List ℕ) → IfOk (scalar_at bs) (λ x. g.Value n bs x.0 x.1)
 scalar-is n [] = tt
 scalar-is n (b ∷ bs) =
     let P : Read Doc → Type 0 = λ o. IfOk o (λ x. g.Value n (b ∷ bs) x.0 x.1) in

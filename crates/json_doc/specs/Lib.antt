@@ -11,6 +11,7 @@ pub mod Gathered
 pub mod Grammar
 pub mod Indented
 pub mod Joined
+pub mod JsonTexts
 pub mod Keys
 pub mod Layouts
 pub mod Least
@@ -19,6 +20,7 @@ pub mod NumberToken
 pub mod Plain
 pub mod Reading
 pub mod Scan
+pub mod StillDue
 pub mod TextToken
 pub mod Trimmed
 pub mod formers

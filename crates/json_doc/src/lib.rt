@@ -2,6 +2,7 @@
 //! see as lists.
 #![tactic(auto)]
 
+mod brackets;
 mod bytes;
 mod copied;
 mod decimal;
@@ -11,6 +12,7 @@ mod decimal_text;
 mod decimal_value;
 mod doc;
 mod document_text;
+mod json_text;
 mod layout;
 mod list;
 mod memory;
@@ -35,10 +37,13 @@ pub use copied::copy;
 pub use decimal::Decimal;
 pub use doc::Doc;
 pub use document_text::{compact, indented};
+pub use json_text::is_json_text;
 pub use list::List;
 pub use memory::OutOfMemory;
 pub use pairs::{Pair, Pairs};
 pub use read_fault::ReadFault;
-pub use read_laws::{compact_reads_back, reading_is_grammar, reading_is_unique};
+pub use read_laws::{
+    compact_reads_back, documents_are_json_texts, reading_is_grammar, reading_is_unique,
+};
 pub use reader::read;
 pub use text::Text;

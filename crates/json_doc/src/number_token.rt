@@ -230,3 +230,13 @@ pub(crate) fn read_number(bytes: &[u8]) -> Result<(Decimal, &[u8]), Stop>
         None => Err(Stop::NumberTooWide(bytes.len())),
     }
 }
+
+/// What is behind a number, whatever its size.
+pub(crate) fn skip_number(bytes: &[u8]) -> Result<&[u8], Stop>
+    ensures passed { IfOk result (λ rest. (n : Number) × (number_at bytes.now ≡ Ok (n, rest.now))) }
+    ensures fault { IfErr result (λ stop. number_at bytes.now ≡ Err stop) }
+    ensures shorter { IfOk result (λ rest. length rest.now < length bytes.now) }
+{
+    let (_, rest) = number_at(bytes)?;
+    Ok(rest)
+}

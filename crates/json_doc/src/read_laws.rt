@@ -6,6 +6,7 @@ ghost use Rattle.json_doc.specs.declared.read_fault.ReadFault.{ReadFault};
 ghost use Rattle.json_doc.specs.Documents.{depth_of, IsProper};
 ghost use Rattle.json_doc.specs.Faults.{HasFault};
 ghost use Rattle.json_doc.specs.Grammar.{Reads};
+ghost use Rattle.json_doc.specs.JsonTexts.{IsJsonText};
 ghost use Rattle.json_doc.specs.Scan.{Scans};
 
 /// Reading from the left ends with a document exactly where the grammar has it, at most 100 deep
@@ -24,4 +25,9 @@ pub fn reading_is_unique()
 /// The compact text of a document is in the grammar as that document, if it nests at most 100 deep.
 pub fn compact_reads_back()
     ensures { (d : Doc) → IsProper d → depth_of d ≤ 100 → Reads (encode_utf8_all (compact_of d)) d }
+{}
+
+/// A document is a JSON text; the limits on depth and on numbers only take away.
+pub fn documents_are_json_texts()
+    ensures { (bytes : List ℕ) (d : Doc) → Reads bytes d → IsJsonText bytes }
 {}

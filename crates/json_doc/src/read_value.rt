@@ -92,7 +92,7 @@ fn read_object(alloc: Global, depth: usize, bytes: &[u8]) -> Result<(Pairs<Doc>,
 }
 
 /// The text or the word that stands in front, and the bytes behind it.
-fn read_scalar(alloc: Global, bytes: &[u8]) -> Result<(Doc, &[u8]), Stop>
+pub fn read_scalar(alloc: Global, bytes: &[u8]) -> Result<(Doc, &[u8]), Stop>
     ensures read { IfOk result (λ x. scalar_at bytes.now ≡ Ok (x.0, x.1.now)) }
     ensures fault { IfErr result (Stops (λ stop. scalar_at bytes.now ≡ Err stop)) }
 {
