@@ -1,3 +1,4 @@
+pub mod FaultText
 pub mod Faults
 pub mod Names
 pub mod Paginators

@@ -1,8 +1,9 @@
-ghost use Rattle.std.specs.Prelude.{◌≡◌, IsTrue, IfOk};
+ghost use Rattle.std.specs.Prelude.{◌≡◌, IsTrue, IfOk, Some};
 ghost use Rattle.std.specs.Str.{chars};
 ghost use Rattle.json_doc.specs.Ascii.{is_ascii_text};
 ghost use Rattle.model_files.specs.declared.fault.ModelFault.TheVariants as fault;
 ghost use Rattle.model_files.specs.Faults.{below, moved, IsFault};
+ghost use Rattle.model_files.specs.FaultText.{fault_text};
 
 use json_doc::{OutOfMemory, Text};
 use std::alloc::{AllocError, AllocFailed, Global};
@@ -25,6 +26,8 @@ pub enum ModelFault {
 }
 
 impl fmt::Display for ModelFault {
+    ghost output = { λ fault. Some (fault_text fault) };
+
     fn fmt<W: fmt::Write>(&self, f: &mut fmt::Formatter<W>) -> fmt::Result {
         match self {
             ModelFault::Missing(place) => write!(f, "nothing at {place}"),
