@@ -10,7 +10,7 @@ use Rattle.jmes_syntax.specs.declared.token.Token.TheVariants as token
 use Rattle.jmes_syntax.specs.Brackets.{begins_index, where_index, behind_index}
 use Rattle.jmes_syntax.specs.Tokens.{same_mark, is_mark, behind, name_at, quoted_at, literal_at}
 
-same-mark : (k c : Mark) → same_mark k c ≡ true → k ≡ c
+pub same-mark : (k c : Mark) → same_mark k c ≡ true → k ≡ c
 same-mark k c e = same_true the_type (search rules) k c e
 
 other-is_mark : (c d : Mark) (t : Token) → same_mark c d ≡ false → is_mark c t ≡ true → is_mark d t ≡ false

@@ -21,7 +21,8 @@ use Rattle.jmes_syntax.specs.declared.whole.Whole.{Whole}
 use Rattle.jmes_syntax.specs.Brackets.{closed, step_of, slice, step_at, stop_at, slice_at, only_number, start_at, star_at, index_at, begins_index, where_index, behind_index}
 use Rattle.jmes_syntax.specs.Functions.{arity_of}
 use Rattle.jmes_syntax.specs.Reading.{Read, ◌>>=◌, made, followed, or_else, left_of}
-use Rattle.jmes_syntax.specs.Scan.{comparator_of, comparator_at, negations_at, takes, counted, any_name_at, before_colon, key_at, Linking, linking, Joined, Side, Sides, Comparison, Comparisons, OperandAt, ChainAt, Links, LinkAt, First, Part, Named, Enclosed, Items, MoreItems, Members, MoreMembers, Arguments, MoreArguments, ArgumentAt}
+use Rattle.jmes_syntax.specs.Scan.{comparator_at, negations_at, counted, any_name_at, before_colon, key_at, Linking, linking, Joined, Side, Sides, Comparison, Comparisons, OperandAt, ChainAt, Links, LinkAt, First, Part, Named, Enclosed, Items, MoreItems, Members, MoreMembers, Arguments, MoreArguments, ArgumentAt}
+use Rattle.jmes_syntax.specs.Trees.{comparator_of, takes}
 use Rattle.jmes_syntax.specs.Tokens.{is_mark, behind, or_syntax, past, number_at, name_at, quoted_at, literal_at}
 
 -- at most so many tokens are left behind it, and so many at its fault

@@ -4,14 +4,7 @@ use Rattle.std.specs.Prelude.{MatchOption}
 use Rattle.json_doc.specs.declared.doc.Doc as doc
 use Rattle.json_doc.specs.declared.doc.Doc.{Doc}
 use Rattle.json_doc.specs.declared.doc.Doc.TheViews.{out-Doc}
-use Rattle.json_doc.specs.declared.read_fault.ReadFault.{ReadFault}
-use Rattle.json_doc.specs.declared.read_fault.ReadFault.TheVariants.{Syntax, TooDeep, NumberTooWide}
-use Rattle.json_doc.specs.Faults.{HasFault}
-use Rattle.json_doc.specs.Grammar.{Reads}
 use Rattle.json_doc.specs.Scan.{skipped}
-use Rattle.json_doc.proofs.Complete.{text_complete}
-use Rattle.json_doc.proofs.Once.{text_once}
-use Rattle.json_doc.proofs.Refusals.{no_fault, one_fault}
 use Rattle.jmes_syntax.specs.declared.delimited.Quote.{Quote}
 use Rattle.jmes_syntax.specs.declared.delimited.Quote.TheVariants as quote
 use Rattle.jmes_syntax.specs.declared.lexer.Kind.{Kind}
@@ -20,13 +13,11 @@ use Rattle.jmes_syntax.specs.declared.token.Token.{Token}
 use Rattle.jmes_syntax.specs.declared.token.Token.TheVariants as token
 use Rattle.jmes_syntax.specs.Delimited.{delimited}
 use Rattle.jmes_syntax.specs.Lexing.{kind_at, mark_at, tokened, DelimitedAt, TokenAt, Lexes}
-use Rattle.jmes_syntax.specs.Literals.{in_quotes, mapped, StringOf, LiteralOf, TextOf, ValueOf}
+use Rattle.jmes_syntax.specs.Literals.{in_quotes, mapped, StringOf, BareOf, LiteralOf, TextOf, ValueOf}
 use Rattle.jmes_syntax.specs.Numbers.{number_at}
 use Rattle.jmes_syntax.specs.Reading.{followed}
 use Rattle.jmes_syntax.specs.Words.{name_len}
-
-one_document : (bs : List ℕ) (d e : Doc) → Reads bs d → Reads bs e → d ≡ e
-one_document bs d e r s = let same = text_once bs _ _ (text_complete bs d r) (text_complete bs e s) in cc
+use Rattle.jmes_syntax.proofs.LiteralValues.{one_document}
 
 same_text : (t u : List ℕ) → doc.Str t ≡ doc.Str u → t ≡ u
 same_text t u e = let inner = ap out-Doc e in cc
@@ -37,26 +28,17 @@ string_once (StringOf.string {t = t} r) p (StringOf.no_string none) = absurd (no
 string_once (StringOf.no_string none) p (StringOf.string {t = t} r) = absurd (none t r)
 string_once (StringOf.no_string none) p (StringOf.no_string other) = refl
 
-clash : (bs : List ℕ) (d : Doc) (f : ReadFault) → Reads bs d → HasFault bs f → ⊥
-clash bs d f r h = no_fault bs d f (text_complete bs d r) h
+bare_once : {bs : List ℕ} {o : Option (List ℕ)} → BareOf bs o → (p : Option (List ℕ)) → BareOf bs p → p ≡ o
+bare_once (BareOf.unquoted other s) p (BareOf.unquoted {o = q} others t) = string_once s q t
+bare_once (BareOf.unquoted other s) p (BareOf.beyond_limits is) = absurd (other is)
+bare_once (BareOf.beyond_limits is) p (BareOf.unquoted other t) = absurd (other is)
+bare_once (BareOf.beyond_limits is) p (BareOf.beyond_limits also) = refl
 
 literal_once : {bs : List ℕ} {o : Option Doc} → LiteralOf bs o → (p : Option Doc) → LiteralOf bs p → p ≡ o
-literal_once (LiteralOf.document {bs = bs} {d = d} r) p (LiteralOf.document {d = e} s) = ap Some (one_document bs e d s r)
-literal_once (LiteralOf.document {bs = bs} {d = d} r) p (LiteralOf.bare at h s) = absurd (clash bs d (Syntax at) r h)
-literal_once (LiteralOf.document {bs = bs} {d = d} r) p (LiteralOf.too_deep at h) = absurd (clash bs d (TooDeep at) r h)
-literal_once (LiteralOf.document {bs = bs} {d = d} r) p (LiteralOf.too_wide at h) = absurd (clash bs d (NumberTooWide at) r h)
-literal_once (LiteralOf.bare {bs = bs} at h s) p (LiteralOf.document {d = d} r) = absurd (clash bs d (Syntax at) r h)
-literal_once (LiteralOf.bare at h s) p (LiteralOf.bare {o = q} at2 k t) = ap (mapped doc.Str) (string_once s q t)
-literal_once (LiteralOf.bare {bs = bs} at h s) p (LiteralOf.too_deep at2 k) = let same = one_fault bs (Syntax at) (TooDeep at2) h k in absurd cc
-literal_once (LiteralOf.bare {bs = bs} at h s) p (LiteralOf.too_wide at2 k) = let same = one_fault bs (Syntax at) (NumberTooWide at2) h k in absurd cc
-literal_once (LiteralOf.too_deep {bs = bs} at h) p (LiteralOf.document {d = d} r) = absurd (clash bs d (TooDeep at) r h)
-literal_once (LiteralOf.too_deep {bs = bs} at h) p (LiteralOf.bare at2 k t) = let same = one_fault bs (Syntax at2) (TooDeep at) k h in absurd cc
-literal_once (LiteralOf.too_deep at h) p (LiteralOf.too_deep at2 k) = refl
-literal_once (LiteralOf.too_deep at h) p (LiteralOf.too_wide at2 k) = refl
-literal_once (LiteralOf.too_wide {bs = bs} at h) p (LiteralOf.document {d = d} r) = absurd (clash bs d (NumberTooWide at) r h)
-literal_once (LiteralOf.too_wide {bs = bs} at h) p (LiteralOf.bare at2 k t) = let same = one_fault bs (Syntax at2) (NumberTooWide at) k h in absurd cc
-literal_once (LiteralOf.too_wide at h) p (LiteralOf.too_deep at2 k) = refl
-literal_once (LiteralOf.too_wide at h) p (LiteralOf.too_wide at2 k) = refl
+literal_once (LiteralOf.json {bs = bs} {d = d} r) p (LiteralOf.json {d = e} s) = ap Some (one_document bs e d s r)
+literal_once (LiteralOf.json {d = d} r) p (LiteralOf.bare none s) = absurd (none d r)
+literal_once (LiteralOf.bare none s) p (LiteralOf.json {d = d} r) = absurd (none d r)
+literal_once (LiteralOf.bare none s) p (LiteralOf.bare {o = q} other t) = ap (mapped doc.Str) (bare_once s q t)
 
 utf8_once : {bs : List ℕ} {o : Option (List ℕ)} → TextOf bs o → (p : Option (List ℕ)) → TextOf bs p → p ≡ o
 utf8_once (TextOf.text u) p (TextOf.text v) = refl

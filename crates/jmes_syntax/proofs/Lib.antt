@@ -1,5 +1,8 @@
 pub mod DigitFronts
 pub mod Fronts
+pub mod GrammarComplete
+pub mod GrammarOfTexts
+pub mod GrammarSound
 pub mod Lengths
 pub mod LexLengths
 pub mod LexOnce

@@ -1,19 +1,23 @@
 -- The values of texts between quotes.
-use Rattle.std.proofs.Common.{◌≡◌, ℕ, List, Option, Some, None, ◌⊎◌, ⊎_elim, sym, subst, ◌∙◌}
+use Rattle.std.proofs.Common.{◌≡◌, ℕ, List, Option, Some, None, subst}
 use Rattle.std.specs.Prelude.{IfSome, IfNone}
 use Rattle.json_doc.specs.declared.doc.Doc as doc
 use Rattle.json_doc.specs.declared.doc.Doc.{Doc}
-use Rattle.json_doc.specs.declared.read_fault.ReadFault.{ReadFault}
-use Rattle.json_doc.specs.declared.read_fault.ReadFault.TheVariants.{OutOfMemory as NoMemory}
-use Rattle.json_doc.specs.Faults.{HasFault}
 use Rattle.json_doc.specs.Grammar.{Reads}
-use Rattle.jmes_syntax.specs.Literals.{in_quotes, StringOf, string, no_string}
+use Rattle.json_doc.proofs.Complete.{text_complete}
+use Rattle.json_doc.proofs.Once.{text_once}
+use Rattle.jmes_syntax.specs.Literals.{in_quotes, DocumentOf, StringOf, string, no_string}
+
+pub one_document : (bs : List ℕ) (d e : Doc) → Reads bs d → Reads bs e → d ≡ e
+one_document bs d e r s = let same = text_once bs _ _ (text_complete bs d r) (text_complete bs e s) in cc
+
+pub is_document : {bs : List ℕ} {d : Doc} → DocumentOf bs (Some d) → Reads bs d
+is_document (DocumentOf.document r) = r
+
+pub none_document : {bs : List ℕ} → DocumentOf bs None → (d : Doc) → Reads bs d → ⊥
+none_document (DocumentOf.no_document none) = none
 
 -- the document between quotes, as a text or as none
-pub StringOf-from : (bs : List ℕ) (d : Doc) (o : Option (List ℕ)) → Reads (in_quotes bs) d → IfSome o (λ t. d ≡ doc.Str t) → IfNone o ((t : List ℕ) → d ≡ doc.Str t → ⊥) → ((e : Doc) → Reads (in_quotes bs) e → d ≡ e) → StringOf bs o
-StringOf-from bs d (Some t) reads is none only = string (subst (Reads (in_quotes bs)) is reads)
-StringOf-from bs d None reads is none only = no_string (λ t other. none t (only (doc.Str t) other))
-
--- a fault that isn't want of memory
-pub fault_is : (bs : List ℕ) (e f : ReadFault) → e ≡ f → (f ≡ NoMemory → ⊥) → ((e ≡ NoMemory) ⊎ HasFault bs e) → HasFault bs f
-fault_is bs e f same other h = ⊎_elim (λ none. absurd (other (sym same ∙ none))) (λ has. subst (HasFault bs) same has) h
+pub StringOf-from : (bs : List ℕ) (d : Doc) (o : Option (List ℕ)) → Reads (in_quotes bs) d → IfSome o (λ t. d ≡ doc.Str t) → IfNone o ((t : List ℕ) → d ≡ doc.Str t → ⊥) → StringOf bs o
+StringOf-from bs d (Some t) reads is none = string (subst (Reads (in_quotes bs)) is reads)
+StringOf-from bs d None reads is none = no_string (λ t other. none t (one_document (in_quotes bs) d (doc.Str t) reads other))

@@ -1,8 +1,10 @@
 -- Functions by their names.
-use Rattle.std.proofs.Common.{◌≡◌, ℕ, zero, suc, ◌+◌, ◌<◌, false, List, [], ◌∷◌, length, drop, get_or, Some, refl, subst, arith}
+use Rattle.std.proofs.Common.{◌≡◌, ℕ, zero, suc, ◌+◌, ◌<◌, true, false, if◌then◌else◌, List, [], ◌∷◌, length, drop, get_or, Some, refl, ap, subst, ◌∙◌, arith}
+use Rattle.std.proofs.lemmas.Slice.Eq.{bytes_eq-Decides}
 use Rattle.std.specs.Prelude.{bytes_eq}
 use Rattle.jmes_syntax.specs.declared.function.Function.{Function}
 use Rattle.jmes_syntax.specs.declared.function.Function.TheVariants as function
+use Rattle.jmes_syntax.specs.declared.function.TheConstants.{FUNCTIONS}
 use Rattle.jmes_syntax.specs.Functions.{name_of, first_named, function_named}
 
 -- a function of another name is passed over
@@ -40,3 +42,15 @@ found_by_name function.ToNumber = refl
 found_by_name function.ToString = refl
 found_by_name function.Type = refl
 found_by_name function.Values = refl
+
+-- what is found by a name has it
+first-name : (t : List ℕ) (fs : List Function) (f : Function) → first_named t fs ≡ Some f → t ≡ name_of f
+first-name t [] f e = absurd cc
+first-name t (d ∷ fs) f e =
+    elim (bytes_eq t (name_of d)) as (λ v. bytes_eq t (name_of d) ≡ v → (if v then Some d else first_named t fs) ≡ Some f → t ≡ name_of f) [
+      | true ↦ (λ equal h. let same : d ≡ f = cc in (bytes_eq-Decides t (name_of d)).0 equal ∙ ap name_of same)
+      | false ↦ (λ other h. first-name t fs f h)
+    ] refl e
+
+pub name_found : (t : List ℕ) (f : Function) → function_named t ≡ Some f → t ≡ name_of f
+name_found t f e = first-name t FUNCTIONS f e

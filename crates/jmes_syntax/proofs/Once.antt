@@ -23,7 +23,8 @@ use Rattle.jmes_syntax.specs.Brackets.{closed, index_at, behind_index}
 use Rattle.jmes_syntax.specs.Chains.{linked, empty_chain}
 use Rattle.jmes_syntax.specs.Functions.{function_named}
 use Rattle.jmes_syntax.specs.Reading.{Read, ◌>>=◌, made}
-use Rattle.jmes_syntax.specs.Scan.{mark_of, one_of, comparison, comparator_at, negations_at, counted, key_at, member, compared, operand, Linking, linking, Joined, Side, Sides, Comparison, Comparisons, OperandAt, ChainAt, Links, LinkAt, First, Part, Named, Enclosed, Items, MoreItems, Members, MoreMembers, Arguments, MoreArguments, ArgumentAt}
+use Rattle.jmes_syntax.specs.Scan.{comparator_at, negations_at, counted, key_at, Linking, linking, Joined, Side, Sides, Comparison, Comparisons, OperandAt, ChainAt, Links, LinkAt, First, Part, Named, Enclosed, Items, MoreItems, Members, MoreMembers, Arguments, MoreArguments, ArgumentAt}
+use Rattle.jmes_syntax.specs.Trees.{mark_of, one_of, comparison, member, compared, operand}
 use Rattle.jmes_syntax.specs.Tokens.{behind, past, name_at, quoted_at, literal_at}
 use Rattle.jmes_syntax.proofs.Fronts.{other-behind, index-other, other-index, no_index, literal-behind, name-behind, quoted-behind, quoted-name}
 

@@ -26,3 +26,12 @@ with_step first (x ∷ xs) s = chain first (onto_last x xs s)
 abbrev pub linked : Chain Expr → Link → Chain Expr
 linked c (link.Step s) = with_step c.first c.flattened s
 linked c link.Flatten = chain c.first (c.flattened ++ [] ∷ [])
+
+-- all these links behind a chain
+abbrev pub with_links : Chain Expr → List Link → Chain Expr
+with_links c [] = c
+with_links c (k ∷ ks) = with_links (linked c k) ks
+
+-- the chain of these links
+abbrev pub chain_of : List Link → Chain Expr
+chain_of ks = with_links empty_chain ks

@@ -1,7 +1,9 @@
 pub mod Brackets
 pub mod Chains
 pub mod Delimited
+pub mod FaultText
 pub mod Functions
+pub mod Grammar
 pub mod Lexing
 pub mod Literals
 pub mod Marks
@@ -11,4 +13,5 @@ pub mod Reading
 pub mod Scan
 pub mod Scans
 pub mod Tokens
+pub mod Trees
 pub mod Words

@@ -4,9 +4,8 @@ use Rattle.std.specs.Prelude.{ℕ, List, [], ◌∷◌, ◌++◌, Option, None, 
 use Rattle.std.specs.Str.{chars, IsUtf8}
 use Rattle.json_doc.specs.declared.doc.Doc as doc
 use Rattle.json_doc.specs.declared.doc.Doc.{Doc}
-use Rattle.json_doc.specs.declared.read_fault.ReadFault.TheVariants.{Syntax, TooDeep, NumberTooWide}
-use Rattle.json_doc.specs.Faults.{HasFault}
 use Rattle.json_doc.specs.Grammar.{Reads}
+use Rattle.json_doc.specs.JsonTexts.{IsJsonText}
 use Rattle.json_doc.specs.Scan.{skipped}
 use Rattle.jmes_syntax.specs.declared.delimited.Quote.{Quote}
 use Rattle.jmes_syntax.specs.declared.delimited.Quote.TheVariants as quote
@@ -25,12 +24,21 @@ abbrev pub mapped : {A B : Type 0} → (A → B) → Option A → Option B
 mapped f None = None
 mapped f (Some x) = Some (f x)
 
--- the document of a literal; a text that is none is a JSON string without quotes
+-- the document of these bytes, where they are one
+pub data DocumentOf : List ℕ → Option Doc → Type 0 where
+  document : {bs : List ℕ} {d : Doc} → Reads bs d → DocumentOf bs (Some d)
+  no_document : {bs : List ℕ} → ((d : Doc) → Reads bs d → ⊥) → DocumentOf bs None
+
+-- The text of a literal that is no document: one that isn't JSON is a JSON string without its quotes;
+-- JSON that is too deep, or has a number that is too wide, is none.
+pub data BareOf : List ℕ → Option (List ℕ) → Type 0 where
+  unquoted : {bs : List ℕ} {o : Option (List ℕ)} → (IsJsonText bs → ⊥) → StringOf (skipped bs) o → BareOf bs o
+  beyond_limits : {bs : List ℕ} → IsJsonText bs → BareOf bs None
+
+-- the document of a literal
 pub data LiteralOf : List ℕ → Option Doc → Type 0 where
-  document : {bs : List ℕ} {d : Doc} → Reads bs d → LiteralOf bs (Some d)
-  bare : {bs : List ℕ} {o : Option (List ℕ)} (at : ℕ) → HasFault bs (Syntax at) → StringOf (skipped bs) o → LiteralOf bs (mapped doc.Str o)
-  too_deep : {bs : List ℕ} (at : ℕ) → HasFault bs (TooDeep at) → LiteralOf bs None
-  too_wide : {bs : List ℕ} (at : ℕ) → HasFault bs (NumberTooWide at) → LiteralOf bs None
+  json : {bs : List ℕ} {d : Doc} → Reads bs d → LiteralOf bs (Some d)
+  bare : {bs : List ℕ} {o : Option (List ℕ)} → ((d : Doc) → Reads bs d → ⊥) → BareOf bs o → LiteralOf bs (mapped doc.Str o)
 
 -- the text in UTF-8
 pub data TextOf : List ℕ → Option (List ℕ) → Type 0 where

@@ -1,5 +1,5 @@
 -- Paths: chains of names (JMESPath specification, "SubExpressions").
-use Rattle.std.specs.Prelude.{◌≡◌, List, []}
+use Rattle.std.specs.Prelude.{◌≡◌, []}
 use Rattle.std.specs.List.{AllByRecursion}
 use Rattle.jmes_syntax.specs.declared.expr.Expr.{Expr}
 use Rattle.jmes_syntax.specs.declared.expr.Expr as expr

@@ -1,7 +1,7 @@
 -- Reading an expression from the left, part by part: each part gives its value and the tokens behind it,
 -- or the first fault, with how many tokens are left there. `n` counts the parentheses, lists, hashes,
 -- calls and filters that are open, which are 100 at most.
-use Rattle.std.specs.Prelude.{◌≡◌, ℕ, ◌+◌, ◌<◌, ◌≤◌, ◌==◌, nat_le, Bool, if◌then◌else◌, List, [], ◌∷◌, ◌++◌, length, Option, None, Some, Result, Ok, Err}
+use Rattle.std.specs.Prelude.{◌≡◌, ℕ, ◌+◌, ◌<◌, ◌≤◌, if◌then◌else◌, List, [], ◌∷◌, ◌++◌, length, Option, None, Some, Result, Ok, Err}
 use Rattle.json_doc.specs.declared.doc.Doc.{Doc}
 use Rattle.json_doc.specs.declared.pairs.Pair.{Pair}
 use Rattle.jmes_syntax.specs.declared.chains.Link.{Link}
@@ -10,15 +10,11 @@ use Rattle.jmes_syntax.specs.declared.expr.Argument.{Argument}
 use Rattle.jmes_syntax.specs.declared.expr.Argument.TheVariants as argument
 use Rattle.jmes_syntax.specs.declared.expr.Chain.{Chain}
 use Rattle.jmes_syntax.specs.declared.expr.Comparator.{Comparator}
-use Rattle.jmes_syntax.specs.declared.expr.Comparator.TheVariants as comparator
 use Rattle.jmes_syntax.specs.declared.expr.Compared.{Compared}
 use Rattle.jmes_syntax.specs.declared.expr.Expr.{Expr}
-use Rattle.jmes_syntax.specs.declared.expr.Expr as expr
 use Rattle.jmes_syntax.specs.declared.expr.Operand.{Operand}
 use Rattle.jmes_syntax.specs.declared.expr.Step.{Step}
 use Rattle.jmes_syntax.specs.declared.expr.Step.TheVariants as step
-use Rattle.jmes_syntax.specs.declared.function.Arity.{Arity}
-use Rattle.jmes_syntax.specs.declared.function.Arity.TheVariants as arity
 use Rattle.jmes_syntax.specs.declared.function.Function.{Function}
 use Rattle.jmes_syntax.specs.declared.reader.Level.{Level}
 use Rattle.jmes_syntax.specs.declared.reader.Level.TheVariants as level
@@ -33,37 +29,7 @@ use Rattle.jmes_syntax.specs.Chains.{linked, empty_chain}
 use Rattle.jmes_syntax.specs.Functions.{arity_of, function_named}
 use Rattle.jmes_syntax.specs.Reading.{Read, ◌>>=◌, made, followed, or_else}
 use Rattle.jmes_syntax.specs.Tokens.{is_mark, behind, past, name_at, quoted_at, literal_at}
-
--- the mark that joins sides
-abbrev pub mark_of : Level → Mark
-mark_of level.Pipe = mark.Pipe
-mark_of level.Or = mark.Or
-mark_of level.And = mark.And
-
-abbrev pub joined : Level → List Expr → Expr
-joined level.Pipe es = expr.Pipe es
-joined level.Or es = expr.Or es
-joined level.And es = expr.And es
-
--- these sides joined; a side that stands alone is itself
-abbrev pub one_of : Level → List Expr → Expr
-one_of l [] = joined l []
-one_of l (e ∷ []) = e
-one_of l (e ∷ d ∷ es) = joined l (e ∷ d ∷ es)
-
--- an operand and what it is compared with, grouped from the left
-abbrev pub comparison : Operand Expr → List (Compared Expr) → Expr
-comparison a [] = expr.Operand a
-comparison a (c ∷ cs) = expr.Compare a (c ∷ cs)
-
-abbrev pub comparator_of : Mark → Option Comparator
-comparator_of mark.Equal = Some comparator.Equal
-comparator_of mark.NotEqual = Some comparator.NotEqual
-comparator_of mark.Less = Some comparator.Less
-comparator_of mark.LessOrEqual = Some comparator.LessOrEqual
-comparator_of mark.Greater = Some comparator.Greater
-comparator_of mark.GreaterOrEqual = Some comparator.GreaterOrEqual
-comparator_of others = None
+use Rattle.jmes_syntax.specs.Trees.{mark_of, one_of, comparison, comparator_of, takes, member, compared, operand}
 
 -- the comparator in front, and what is behind it
 abbrev pub comparator_at : List Token → Option (Comparator × List Token)
@@ -75,11 +41,6 @@ comparator_at (t ∷ ts) = None
 abbrev pub negations_at : List Token → ℕ × List Token
 negations_at [] = (0, [])
 negations_at (t ∷ ts) = if is_mark mark.Not t then (let more = negations_at ts in (more.0 + 1, more.1)) else (0, t ∷ ts)
-
--- the function takes so many arguments
-abbrev pub takes : Arity → ℕ → Bool
-takes (arity.Exactly k) n = n == k
-takes (arity.AtLeast k) n = nat_le k n
 
 -- a call, where the function takes so many arguments; `left` counts the tokens from its name on
 abbrev pub counted : Function → ℕ → Read (List (Argument Expr)) → Read (Step Expr)
@@ -97,15 +58,6 @@ before_colon ts (Some key) = closed mark.Colon key.0 key.1
 -- a key of a hash and its colon
 abbrev pub key_at : List Token → Read (List ℕ)
 key_at ts = before_colon ts (any_name_at ts)
-
-abbrev pub member : List ℕ → Expr → Pair Expr
-member k e = record { key = k; value = e }
-
-abbrev pub compared : Comparator → Operand Expr → Compared Expr
-compared c a = record { comparator = c; right = a }
-
-abbrev pub operand : ℕ → Chain Expr → Operand Expr
-operand k c = record { negations = k; chain = c }
 
 -- what a link of a chain gives, where there is one
 abbrev pub Linking : Type 0

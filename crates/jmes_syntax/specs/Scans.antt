@@ -1,4 +1,4 @@
--- Whole texts: the expression of a text, or its first fault.
+-- Whole texts, read from the left: the expression of a text, or its first fault.
 use Rattle.std.specs.Prelude.{◌≡◌, ℕ, ◌+◌, ◌-◌, ◌==◌, Bool, true, false, if◌then◌else◌, List, [], ◌∷◌, length, slice_index, encode_utf8_all, Result, Ok, Err}
 use Rattle.json_doc.specs.Scan.{skipped}
 use Rattle.jmes_syntax.specs.declared.expr.Expr.{Expr}
@@ -33,10 +33,6 @@ pub record Scans (bytes : List ℕ) (r : Result Expr Stop) : Type 0 where
   pub left : ℕ
   pub lexed : Lexes (skipped bytes) tokens lefts left
   pub read : Whole tokens (left == 0) r
-
--- a text is this expression
-abbrev pub Expression : List ℕ → Expr → Type 0
-Expression text e = Scans (encode_utf8_all text) (Ok e)
 
 -- the fault of this reason stands here; `total` counts the bytes
 abbrev pub IsPlaced : List ℕ → ℕ → ℕ → Stop → ParseFault → Type 0

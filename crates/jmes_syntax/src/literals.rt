@@ -1,11 +1,11 @@
 ghost use Rattle.std.specs.Prelude.{◌≡◌, ◌≤◌, ℕ, List, length, IfOk, IfSome, IfNone};
 ghost use Rattle.json_doc.specs.Grammar.{is_blank};
 ghost use Rattle.json_doc.specs.Scan.{skipped};
-ghost use Rattle.jmes_syntax.specs.Literals.{in_quotes, StringOf, LiteralOf, TextOf, ValueOf};
+ghost use Rattle.jmes_syntax.specs.Literals.{in_quotes, DocumentOf, StringOf, BareOf, LiteralOf, TextOf, ValueOf};
 
 use crate::delimited::Quote;
 use crate::token::Token;
-use json_doc::{Bytes, Doc, OutOfMemory, ReadFault, Text, read};
+use json_doc::{Bytes, Doc, OutOfMemory, ReadFault, Text, is_json_text, read};
 use std::alloc::Global;
 use std::str;
 
@@ -48,13 +48,12 @@ fn into_text(doc: Doc) -> Option<Text>
     }
 }
 
-// The JSON string whose inside this is.
-fn string_of(alloc: Global, inside: &[u8]) -> Result<Option<Text>, OutOfMemory>
-    ensures { IfOk result (StringOf inside.now) }
+// The document of these bytes, where they are one.
+fn document_of(alloc: Global, bytes: &[u8]) -> Result<Option<Doc>, OutOfMemory>
+    ensures { IfOk result (DocumentOf bytes.now) }
 {
-    let quoted = in_quotes(alloc, inside)?;
-    match read(alloc, quoted.as_slice()) {
-        Ok(doc) => Ok(into_text(doc)),
+    match read(alloc, bytes) {
+        Ok(doc) => Ok(Some(doc)),
         Err(ReadFault::Syntax(_)) => Ok(None),
         Err(ReadFault::TooDeep(_)) => Ok(None),
         Err(ReadFault::NumberTooWide(_)) => Ok(None),
@@ -62,19 +61,37 @@ fn string_of(alloc: Global, inside: &[u8]) -> Result<Option<Text>, OutOfMemory>
     }
 }
 
-// The document of a literal, or else the JSON string of its text.
+// The JSON string whose inside this is.
+fn string_of(alloc: Global, inside: &[u8]) -> Result<Option<Text>, OutOfMemory>
+    ensures { IfOk result (StringOf inside.now) }
+{
+    let quoted = in_quotes(alloc, inside)?;
+    match document_of(alloc, quoted.as_slice())? {
+        Some(doc) => Ok(into_text(doc)),
+        None => Ok(None),
+    }
+}
+
+// The text of a literal that is no document.
+fn bare_of(alloc: Global, text: &[u8]) -> Result<Option<Text>, OutOfMemory>
+    ensures { IfOk result (BareOf text.now) }
+{
+    if is_json_text(alloc, text)? {
+        return Ok(None);
+    }
+    string_of(alloc, skip_blanks(text))
+}
+
+// The document of a literal.
 fn literal_of(alloc: Global, text: &[u8]) -> Result<Option<Doc>, OutOfMemory>
     ensures { IfOk result (LiteralOf text.now) }
 {
-    match read(alloc, text) {
-        Ok(doc) => Ok(Some(doc)),
-        Err(ReadFault::Syntax(_)) => match string_of(alloc, skip_blanks(text))? {
-            Some(string) => Ok(Some(Doc::Str(string))),
+    match document_of(alloc, text)? {
+        Some(doc) => Ok(Some(doc)),
+        None => match bare_of(alloc, text)? {
+            Some(bare) => Ok(Some(Doc::Str(bare))),
             None => Ok(None),
         },
-        Err(ReadFault::TooDeep(_)) => Ok(None),
-        Err(ReadFault::NumberTooWide(_)) => Ok(None),
-        Err(ReadFault::OutOfMemory) => Err(OutOfMemory),
     }
 }
 

@@ -1,3 +1,6 @@
+ghost use Rattle.std.specs.Prelude.{Some};
+ghost use Rattle.jmes_syntax.specs.FaultText.{fault_text};
+
 use std::error::Error;
 use std::fmt;
 
@@ -14,6 +17,8 @@ pub enum ParseFault {
 }
 
 impl fmt::Display for ParseFault {
+    ghost output = { λ fault. Some (fault_text fault) };
+
     fn fmt<W: fmt::Write>(&self, f: &mut fmt::Formatter<W>) -> fmt::Result {
         match self {
             ParseFault::Syntax(at) => write!(f, "No expression at byte {at}"),

@@ -3,7 +3,8 @@ ghost use Rattle.jmes_syntax.specs.declared.expr.Expr.{Expr as Tree};
 ghost use Rattle.jmes_syntax.specs.declared.parse_fault.ParseFault.{ParseFault as Fault};
 ghost use Rattle.jmes_syntax.specs.declared.parse_fault.ParseFault.TheVariants.{OutOfMemory as NoMemory};
 ghost use Rattle.jmes_syntax.specs.Reading.{left_of};
-ghost use Rattle.jmes_syntax.specs.Scans.{Expression, HasFault, IsPlaced, left_at};
+ghost use Rattle.jmes_syntax.specs.Grammar.{Expression};
+ghost use Rattle.jmes_syntax.specs.Scans.{HasFault, IsPlaced, left_at};
 
 use crate::lexer::{Lexed, lex};
 use crate::reader::read_whole;

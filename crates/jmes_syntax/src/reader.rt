@@ -1,14 +1,8 @@
 ghost use Rattle.std.specs.Prelude.{◌≡◌, ◌<◌, ◌≤◌, ◌+◌, [], IfOk, IfErr, Ok, Err};
 ghost use Rattle.jmes_syntax.specs.Reading.{Finds, Stops, seen};
 ghost use Rattle.jmes_syntax.specs.Scan.{
-  mark_of,
-  joined,
-  one_of,
-  comparison,
-  comparator_of,
   comparator_at,
   negations_at,
-  takes,
   any_name_at,
   key_at,
   Joined,
@@ -28,6 +22,7 @@ ghost use Rattle.jmes_syntax.specs.Scan.{
   Arguments,
 };
 ghost use Rattle.jmes_syntax.specs.Scans.{Whole};
+ghost use Rattle.jmes_syntax.specs.Trees.{mark_of, joined, one_of, comparison, comparator_of, takes};
 ghost use Rattle.jmes_syntax.specs.declared.stop.Stop.TheVariants.{Syntax};
 
 use crate::brackets::{pass, read_index, strip_index};

@@ -32,7 +32,7 @@ const SHORT: [(&str, &str); 23] = [
 ];
 
 /// Expressions and their trees.
-const EXPRESSIONS: [(&str, &str); 63] = [
+const EXPRESSIONS: [(&str, &str); 66] = [
     ("foo", "<[Field(\"foo\")]>"),
     (" \t\r\nfoo \n", "<[Field(\"foo\")]>"),
     ("_a1.B_2", "<[Field(\"_a1\"), Field(\"B_2\")]>"),
@@ -122,6 +122,12 @@ const EXPRESSIONS: [(&str, &str); 63] = [
     ("`\"a\\`b\"`", "<[Literal(Str(\"a`b\"))]>"),
     ("`  foo bar `", "<[Literal(Str(\"foo bar \"))]>"),
     ("``", "<[Literal(Str(\"\"))]>"),
+    ("`1E36x`", "<[Literal(Str(\"1E36x\"))]>"),
+    ("`[1E36`", "<[Literal(Str(\"[1E36\"))]>"),
+    (
+        "`[[[[[[[[[[[[[[[[[[[[[[[[[[[[[[[[[[[[[[[[[[[[[[[[[[[[[[[[[[[[[[[[[[[[[[[[[[[[[[[[[[[[[[[[[[[[[[[[[[[[[`",
+        "<[Literal(Str(\"[[[[[[[[[[[[[[[[[[[[[[[[[[[[[[[[[[[[[[[[[[[[[[[[[[[[[[[[[[[[[[[[[[[[[[[[[[[[[[[[[[[[[[[[[[[[[[[[[[[[[\"))]>",
+    ),
     ("`\"x\"`.a", "<[Literal(Str(\"x\")), Field(\"a\")]>"),
     ("@", "<[Current]>"),
     ("@.a", "<[Current, Field(\"a\")]>"),
@@ -183,7 +189,7 @@ const EXPRESSIONS: [(&str, &str); 63] = [
 ];
 
 /// Texts that are no expression, and their faults.
-const FAULTS: [(&str, ParseFault); 77] = [
+const FAULTS: [(&str, ParseFault); 79] = [
     ("", ParseFault::Syntax(0)),
     ("  ", ParseFault::Syntax(2)),
     ("Books[", ParseFault::Syntax(6)),
@@ -250,6 +256,11 @@ const FAULTS: [(&str, ParseFault); 77] = [
     ("\"\n\"", ParseFault::Syntax(0)),
     ("`a\"b`", ParseFault::Syntax(0)),
     ("`1E36`", ParseFault::Syntax(0)),
+    ("`[1E36]`", ParseFault::Syntax(0)),
+    (
+        "`[[[[[[[[[[[[[[[[[[[[[[[[[[[[[[[[[[[[[[[[[[[[[[[[[[[[[[[[[[[[[[[[[[[[[[[[[[[[[[[[[[[[[[[[[[[[[[[[[[[[[]]]]]]]]]]]]]]]]]]]]]]]]]]]]]]]]]]]]]]]]]]]]]]]]]]]]]]]]]]]]]]]]]]]]]]]]]]]]]]]]]]]]]]]]]]]]]]]]]]]]]`",
+        ParseFault::Syntax(0),
+    ),
     ("\"length\"(a)", ParseFault::Syntax(8)),
     ("@(a)", ParseFault::Syntax(1)),
     ("abs(a", ParseFault::Syntax(5)),

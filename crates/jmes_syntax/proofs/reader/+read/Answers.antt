@@ -8,7 +8,8 @@ use Rattle.jmes_syntax.specs.declared.stop.Stop.TheVariants.{Arity}
 use Rattle.jmes_syntax.specs.declared.token.Mark.TheVariants as mark
 use Rattle.jmes_syntax.specs.Functions.{arity_of}
 use Rattle.jmes_syntax.specs.Reading.{Stops, made, ◌>>=◌}
-use Rattle.jmes_syntax.specs.Scan.{operand, takes, linking, comparator_at, Joined, Side, Sides, Comparison, Comparisons, OperandAt, ChainAt, Links, LinkAt, First, Part, Named, Enclosed, Items, MoreItems, Members, MoreMembers, Arguments, MoreArguments, ArgumentAt}
+use Rattle.jmes_syntax.specs.Scan.{linking, comparator_at, Joined, Side, Sides, Comparison, Comparisons, OperandAt, ChainAt, Links, LinkAt, First, Part, Named, Enclosed, Items, MoreItems, Members, MoreMembers, Arguments, MoreArguments, ArgumentAt}
+use Rattle.jmes_syntax.specs.Trees.{operand, takes}
 use Rattle.jmes_syntax.proofs.Lengths.{behind-lt, past-lt, key_at-le, shorter-at, comparator_at-shorter, joined-within, side-within, operand-within, argument-within, link-within}
 use Rattle.jmes_syntax.proofs.Stopping.{weaker, all_stop, ok_weaker, err_weaker}
 use Rattle.jmes_syntax.proofs.reader.+read.Goals as goal
