@@ -1,0 +1,6 @@
+use Rattle.std.proofs.Common.{◌≡◌, ◌++◌, drop}
+use Rattle.jmes_eval.specs.Seen.{looked}
+use Rattle.jmes_eval.proofs.lists.copies.Given as goal
+
+abbrev pub invariant-loop-place : goal.invariant-loop-place
+invariant-loop-place l = l.made ++ looked (drop l.place-index l.places) ≡ looked l.fn.places

@@ -1,0 +1,11 @@
+use Rattle.std.proofs.Common.{ap, ◌∙◌}
+use Rattle.jmes_eval.specs.Answers.{◌>>=◌, as_number}
+use Rattle.jmes_eval.specs.Fractions.{decimal_of}
+use Rattle.jmes_eval.specs.Numbers.{size_of}
+use Rattle.jmes_eval.proofs.NumberAnswers.{as_number-is}
+use Rattle.jmes_eval.proofs.numbers.abs.Goals as goal
+
+pub returns : goal.returns
+returns c =
+    let e = as_number-is (size_of c.in_ok-number.field-0) c.size.result c.size.ensures in
+    ap (λ o. o >>= (λ n. as_number (decimal_of (size_of n)))) c.in_ok-number.ensures ∙ e

@@ -1,0 +1,18 @@
+-- What the functions are called with (JMESPath specification, "Built-in Functions": their signatures).
+use Rattle.jmes_syntax.specs.declared.function.Function.{Function}
+use Rattle.jmes_syntax.specs.declared.function.Function.TheVariants as function
+use Rattle.jmes_eval.specs.declared.signature.Form.{Form}
+use Rattle.jmes_eval.specs.declared.signature.Form.TheVariants.{One, Two, Many, ReferenceFirst, ReferenceLast}
+
+abbrev pub form_of : Function → Form
+form_of function.Contains = Two
+form_of function.EndsWith = Two
+form_of function.Join = Two
+form_of function.StartsWith = Two
+form_of function.Merge = Many
+form_of function.NotNull = Many
+form_of function.Map = ReferenceFirst
+form_of function.MaxBy = ReferenceLast
+form_of function.MinBy = ReferenceLast
+form_of function.SortBy = ReferenceLast
+form_of others = One

@@ -1,0 +1,73 @@
+//! Equality of documents.
+ghost use Rattle.std.specs.Prelude.{◌≡◌, ◌&&◌, ◌==◌, length, map};
+ghost use Rattle.std.specs.List.{list_all};
+ghost use Rattle.std.specs.Option.{option_copied};
+ghost use Rattle.json_doc.specs.declared.doc.Doc.TheViews.{out-Doc};
+ghost use Rattle.json_doc.specs.Keys.{value_at};
+ghost use Rattle.jmes_eval.specs.Equality.{same, each_same, has_doc_field};
+
+use json_doc::{Doc, Pair, Pairs, Text};
+use std::cmp::Ordering;
+
+/// Whether two documents are equal: of one kind, with the same value, deep down. In objects the order
+/// of the keys doesn't matter.
+#[cycle(equality)]
+pub(crate) fn same(a: &Doc, b: &Doc) -> bool
+    ensures { result ≡ same a.now b.now }
+{
+    match (a, b) {
+        (Doc::Null, Doc::Null) => true,
+        (Doc::Flag(a), Doc::Flag(b)) => *a == *b,
+        (Doc::Number(a), Doc::Number(b)) => a.cmp(b) == Ordering::Equal,
+        (Doc::Str(a), Doc::Str(b)) => *a == *b,
+        (Doc::Items(a), Doc::Items(b)) => same_items(a.as_slice(), b.as_slice()),
+        (Doc::Fields(a), Doc::Fields(b)) => a.len() == b.len() && same_fields(a.as_slice(), b),
+        _ => false,
+    }
+}
+
+#[cycle(equality)]
+fn same_items(a: &[Doc], b: &[Doc]) -> bool
+    ensures { result ≡ each_same (map same a.now) b.now }
+{
+    if a.len() != b.len() {
+        return false;
+    }
+    for (at, x) in a.iter().enumerate() {
+        if !same(x, &b[at]) {
+            return false;
+        }
+    }
+    true
+}
+
+/// Whether each pair has an equal one.
+#[cycle(equality)]
+fn same_fields(a: &[Pair<Doc>], b: &Pairs<Doc>) -> bool
+    ensures { result ≡ list_all (has_doc_field b.now) a.now }
+{
+    for (at, pair) in a.iter().enumerate() {
+        match value_near(b, at, &pair.key) {
+            Some(value) => {
+                if !same(&pair.value, value) {
+                    return false;
+                }
+            }
+            None => return false,
+        }
+    }
+    true
+}
+
+/// The value at a key, which is looked for at this place first: objects mostly have their keys in the
+/// same order.
+fn value_near<'a>(fields: &'a Pairs<Doc>, at: usize, key: &Text) -> Option<&'a Doc>
+    ensures { option_copied result ≡ value_at key.now fields.now }
+{
+    if let Some(field) = fields.as_slice().get(at) {
+        if field.key == *key {
+            return Some(&field.value);
+        }
+    }
+    fields.get(key.as_str())
+}

@@ -1,0 +1,476 @@
+//! The value of an expression for a document.
+#![tactic(auto, using(crate::proofs::Meanings::by_cases))]
+
+ghost use Rattle.std.specs.Prelude.{◌≡◌, ◌<◌, true, map, option_map, IsTrue, IfOk, Some};
+ghost use Rattle.json_doc.specs.declared.doc.Doc.TheVariants.{Null, Flag};
+ghost use Rattle.jmes_eval.specs.Answers.{Gives, GivesBy};
+ghost use Rattle.jmes_eval.specs.Entries.{entries_of};
+ghost use Rattle.jmes_eval.specs.Kinds.{items_of};
+ghost use Rattle.jmes_eval.specs.Meaning.{arguments_at, both, call_of, chain_of, compare_of, either, hash_of, is_projection, joined_lists, keyed, list_of, map_of, max_by_of, meaning, min_by_of, of_elements, operand_of, part_of, piped, project, reference_in, run, sieved, sort_by_of, step_of};
+ghost use Rattle.jmes_eval.specs.Parts.{argument_with, chain_with, compared_with, operand_with, pair_with, step_with, steps_with};
+ghost use Rattle.jmes_eval.specs.Seen.{looked, seen_doc, seen_values};
+ghost use Rattle.jmes_eval.specs.Weights.{arguments_weight, weight};
+
+use crate::QueryFault;
+use crate::arguments::{first, of_many, of_one, of_two, value};
+use crate::elements::{elements, joined_lists, values};
+use crate::keys::{first_element, fits, in_order};
+use crate::kinds::{is_null, is_true, items};
+use crate::operators::{compared, negated};
+use crate::places::{field_at, index_at};
+use crate::seen::Seen;
+use crate::signature::{Form, form_of};
+use crate::slices::sliced;
+use crate::sorting::{Entry, ascend, descend};
+use jmes_syntax::{Argument, Chain, Compared, Expr, Function, Operand, Step};
+use json_doc::{Doc, List, Pair, Pairs};
+use std::alloc::Global;
+
+/// The value that an expression has for a document, as a document of its own (JMESPath specification).
+/// `TypeFault` comes exactly where a function is called with a value of another kind than it takes, and
+/// `NumberTooWide` where the value of one is no `Decimal`; of several faults the first that is met.
+pub fn search(alloc: Global, expr: &Expr, doc: &Doc) -> Result<Doc, QueryFault>
+    ensures { Gives (meaning expr.now doc.now) result }
+{
+    let seen = look(alloc, expr, doc)?;
+    Ok(seen.into_doc(alloc)?)
+}
+
+/// The value of an expression, which may be a place in the document or in the expression.
+#[cycle(query)]
+fn look<'a>(alloc: Global, expr: &'a Expr, doc: &'a Doc) -> Result<Seen<'a>, QueryFault>
+    ensures { GivesBy seen_doc (meaning expr.now doc.now) result }
+{
+    match expr {
+        Expr::Pipe(parts) => look_through(alloc, parts.as_slice(), doc),
+        Expr::Or(sides) => either(alloc, sides.as_slice(), doc),
+        Expr::And(sides) => both(alloc, sides.as_slice(), doc),
+        Expr::Compare(operand, others) => comparisons(alloc, operand, others.as_slice(), doc),
+        Expr::Operand(operand) => look_at_operand(alloc, operand, doc),
+    }
+}
+
+#[cycle(query)]
+fn look_through<'a>(alloc: Global, parts: &'a [Expr], doc: &'a Doc) -> Result<Seen<'a>, QueryFault>
+    ensures { GivesBy seen_doc (piped (map meaning parts.now) doc.now) result }
+{
+    let mut at = Seen::At(doc);
+    for part in parts {
+        at = go_on(alloc, part, at)?;
+    }
+    Ok(at)
+}
+
+/// The value of an expression for what another one gave.
+#[cycle(query)]
+fn go_on<'a>(alloc: Global, expr: &'a Expr, at: Seen<'a>) -> Result<Seen<'a>, QueryFault>
+    ensures { GivesBy seen_doc (meaning expr.now (seen_doc at.entry)) result }
+{
+    match at {
+        Seen::At(place) => look(alloc, expr, place),
+        Seen::Made(doc) => match look(alloc, expr, &doc) {
+            Ok(seen) => Ok(Seen::Made(seen.into_doc(alloc)?)),
+            Err(fault) => Err(fault),
+        },
+    }
+}
+
+#[cycle(query)]
+fn either<'a>(alloc: Global, sides: &'a [Expr], doc: &'a Doc) -> Result<Seen<'a>, QueryFault>
+    ensures { GivesBy seen_doc (either (map meaning sides.now) Null doc.now) result }
+{
+    let mut at = Seen::Made(Doc::Null);
+    for side in sides {
+        if is_true(at.doc()) {
+            return Ok(at);
+        }
+        at = look(alloc, side, doc)?;
+    }
+    Ok(at)
+}
+
+#[cycle(query)]
+fn both<'a>(alloc: Global, sides: &'a [Expr], doc: &'a Doc) -> Result<Seen<'a>, QueryFault>
+    ensures { GivesBy seen_doc (both (map meaning sides.now) (Flag true) doc.now) result }
+{
+    let mut at = Seen::Made(Doc::Flag(true));
+    for side in sides {
+        if !is_true(at.doc()) {
+            return Ok(at);
+        }
+        at = look(alloc, side, doc)?;
+    }
+    Ok(at)
+}
+
+/// An operand and the comparisons behind it, from the left.
+#[cycle(query)]
+fn comparisons<'a>(
+    alloc: Global,
+    operand: &'a Operand<Expr>,
+    others: &'a [Compared<Expr>],
+    doc: &'a Doc,
+) -> Result<Seen<'a>, QueryFault>
+    ensures { GivesBy seen_doc (compare_of (operand_with meaning operand.now) (map (compared_with meaning) others.now) doc.now) result }
+{
+    let mut at = look_at_operand(alloc, operand, doc)?;
+    for other in others {
+        let right = look_at_operand(alloc, &other.right, doc)?;
+        at = Seen::Made(compared(other.comparator, at.doc(), right.doc()));
+    }
+    Ok(at)
+}
+
+#[cycle(query)]
+fn look_at_operand<'a>(
+    alloc: Global,
+    operand: &'a Operand<Expr>,
+    doc: &'a Doc,
+) -> Result<Seen<'a>, QueryFault>
+    ensures { GivesBy seen_doc (operand_of (operand_with meaning operand.now) doc.now) result }
+{
+    match look_along(alloc, &operand.chain, doc) {
+        Ok(seen) => Ok(negated(operand.negations, seen)),
+        Err(fault) => Err(fault),
+    }
+}
+
+/// The value at the end of a chain.
+#[cycle(query)]
+fn look_along<'a>(
+    alloc: Global,
+    chain: &'a Chain<Expr>,
+    doc: &'a Doc,
+) -> Result<Seen<'a>, QueryFault>
+    ensures { GivesBy seen_doc (chain_of (chain_with meaning chain.now) doc.now) result }
+{
+    let mut at = walk(alloc, chain.first.as_slice(), doc)?;
+    for steps in chain.flattened.as_slice() {
+        at = flatten(alloc, steps, at)?;
+    }
+    Ok(at)
+}
+
+/// A `[]` and the steps behind it, for what the steps before it gave.
+#[cycle(query)]
+fn flatten<'a>(
+    alloc: Global,
+    steps: &'a List<Step<Expr>>,
+    at: Seen<'a>,
+) -> Result<Seen<'a>, QueryFault>
+    ensures { GivesBy seen_doc (project (run (steps_with meaning steps.now)) (option_map joined_lists (items_of (seen_doc at.entry)))) result }
+{
+    match flattened(alloc, steps, at.doc()) {
+        Ok(doc) => Ok(Seen::Made(doc)),
+        Err(fault) => Err(fault),
+    }
+}
+
+#[cycle(query)]
+fn flattened(alloc: Global, steps: &List<Step<Expr>>, doc: &Doc) -> Result<Doc, QueryFault>
+    ensures { Gives (project (run (steps_with meaning steps.now)) (option_map joined_lists (items_of doc.now))) result }
+{
+    match doc {
+        Doc::Items(items) => {
+            let places = joined_lists(alloc, items.as_slice())?;
+            each(alloc, steps.as_slice(), places.as_slice())
+        }
+        _ => Ok(Doc::Null),
+    }
+}
+
+/// The value behind steps of which a projection ends them: it applies those behind it to each element.
+#[cycle(query)]
+fn walk<'a>(alloc: Global, steps: &'a [Step<Expr>], doc: &'a Doc) -> Result<Seen<'a>, QueryFault>
+    ensures { GivesBy seen_doc (run (steps_with meaning steps.now) doc.now) result }
+{
+    let mut at = Seen::At(doc);
+    for (i, step) in steps.iter().enumerate() {
+        if is_projection(step) {
+            let (_, rest) = steps.split_at(i + 1);
+            return match project(alloc, step, rest, at.doc()) {
+                Ok(doc) => Ok(Seen::Made(doc)),
+                Err(fault) => Err(fault),
+            };
+        }
+        at = go_a_step(alloc, step, at)?;
+    }
+    Ok(at)
+}
+
+fn is_projection(step: &Step<Expr>) -> bool
+    ensures { result ≡ is_projection step.now }
+{
+    match step {
+        Step::Values => true,
+        Step::Elements => true,
+        Step::Slice(_) => true,
+        Step::Filter(_) => true,
+        _ => false,
+    }
+}
+
+/// A projection with the steps behind it.
+#[cycle(query)]
+fn project(
+    alloc: Global,
+    step: &Step<Expr>,
+    rest: &[Step<Expr>],
+    doc: &Doc,
+) -> Result<Doc, QueryFault>
+    ensures { IsTrue (is_projection step.now) → Gives (step_of (step_with meaning step.now) (run (steps_with meaning rest.now)) doc.now) result }
+{
+    match (step, doc) {
+        (Step::Values, Doc::Fields(fields)) => {
+            let places = values(alloc, fields.as_slice())?;
+            each(alloc, rest, places.as_slice())
+        }
+        (Step::Elements, Doc::Items(items)) => {
+            let places = elements(alloc, items.as_slice())?;
+            each(alloc, rest, places.as_slice())
+        }
+        (Step::Slice(slice), Doc::Items(items)) => {
+            let places = sliced(alloc, *slice, items.as_slice())?;
+            each(alloc, rest, places.as_slice())
+        }
+        (Step::Filter(test), Doc::Items(items)) => filter(alloc, test, rest, items.as_slice()),
+        _ => Ok(Doc::Null),
+    }
+}
+
+/// The list of the values of steps for each element, without nulls.
+#[cycle(query)]
+fn each(alloc: Global, steps: &[Step<Expr>], places: &[&Doc]) -> Result<Doc, QueryFault>
+    ensures { Gives (project (run (steps_with meaning steps.now)) (Some (looked places.now))) result }
+{
+    let mut made = List::new(alloc);
+    for place in places {
+        let seen = walk(alloc, steps, place)?;
+        if !is_null(seen.doc()) {
+            made.push(seen.into_doc(alloc)?)?;
+        }
+    }
+    Ok(Doc::Items(made))
+}
+
+/// The same for the elements that pass a test.
+#[cycle(query)]
+fn filter(
+    alloc: Global,
+    test: &Expr,
+    steps: &[Step<Expr>],
+    items: &[Doc],
+) -> Result<Doc, QueryFault>
+    ensures { Gives (project (sieved (meaning test.now) (run (steps_with meaning steps.now))) (Some items.now)) result }
+{
+    let mut made = List::new(alloc);
+    for item in items {
+        if is_true(look(alloc, test, item)?.doc()) {
+            let found = walk(alloc, steps, item)?;
+            if !is_null(found.doc()) {
+                made.push(found.into_doc(alloc)?)?;
+            }
+        }
+    }
+    Ok(Doc::Items(made))
+}
+
+/// A step that is no projection, for what the steps before it gave.
+#[cycle(query)]
+fn go_a_step<'a>(alloc: Global, step: &'a Step<Expr>, at: Seen<'a>) -> Result<Seen<'a>, QueryFault>
+    ensures { GivesBy seen_doc (part_of (step_with meaning step.now) (seen_doc at.entry)) result }
+{
+    match at {
+        Seen::At(place) => part(alloc, step, place),
+        Seen::Made(doc) => match part(alloc, step, &doc) {
+            Ok(seen) => Ok(Seen::Made(seen.into_doc(alloc)?)),
+            Err(fault) => Err(fault),
+        },
+    }
+}
+
+#[cycle(query)]
+fn part<'a>(alloc: Global, step: &'a Step<Expr>, doc: &'a Doc) -> Result<Seen<'a>, QueryFault>
+    ensures { GivesBy seen_doc (part_of (step_with meaning step.now) doc.now) result }
+{
+    match step {
+        Step::Current => Ok(Seen::At(doc)),
+        Step::Literal(value) => Ok(Seen::At(value)),
+        Step::Field(name) => Ok(field_at(name, doc)),
+        Step::Group(expr) => look(alloc, expr, doc),
+        Step::List(exprs) => list(alloc, exprs.as_slice(), doc),
+        Step::Hash(fields) => hash(alloc, fields.as_slice(), doc),
+        Step::Call(function, arguments) => call(alloc, *function, arguments.as_slice(), doc),
+        Step::Index(n) => Ok(index_at(*n, doc)),
+        Step::Values => Ok(Seen::Made(Doc::Null)),
+        Step::Elements => Ok(Seen::Made(Doc::Null)),
+        Step::Slice(_) => Ok(Seen::Made(Doc::Null)),
+        Step::Filter(_) => Ok(Seen::Made(Doc::Null)),
+    }
+}
+
+/// A multi-select list.
+#[cycle(query)]
+fn list<'a>(alloc: Global, exprs: &'a [Expr], doc: &'a Doc) -> Result<Seen<'a>, QueryFault>
+    ensures { GivesBy seen_doc (list_of (map meaning exprs.now) doc.now) result }
+{
+    if is_null(doc) {
+        return Ok(Seen::Made(Doc::Null));
+    }
+    let mut made = List::new(alloc);
+    for expr in exprs {
+        made.push(look(alloc, expr, doc)?.into_doc(alloc)?)?;
+    }
+    Ok(Seen::Made(Doc::Items(made)))
+}
+
+/// A multi-select hash.
+#[cycle(query)]
+fn hash<'a>(alloc: Global, fields: &'a [Pair<Expr>], doc: &'a Doc) -> Result<Seen<'a>, QueryFault>
+    ensures { GivesBy seen_doc (hash_of (map (pair_with meaning) fields.now) doc.now) result }
+{
+    if is_null(doc) {
+        return Ok(Seen::Made(Doc::Null));
+    }
+    let mut made = Pairs::new(alloc);
+    for field in fields {
+        let value = look(alloc, &field.value, doc)?.into_doc(alloc)?;
+        made.put(field.key.copy(alloc)?, value)?;
+    }
+    Ok(Seen::Made(Doc::Fields(made)))
+}
+
+/// A function's value for its arguments, which have their values first.
+#[cycle(query)]
+fn call<'a>(
+    alloc: Global,
+    function: Function,
+    arguments: &'a [Argument<Expr>],
+    doc: &'a Doc,
+) -> Result<Seen<'a>, QueryFault>
+    ensures { GivesBy seen_doc (call_of function (map (argument_with meaning) arguments.now) doc.now) result }
+{
+    let values = arguments_at(alloc, arguments, doc)?;
+    match form_of(function) {
+        Form::One => of_one(alloc, function, first(values)?),
+        Form::Two => {
+            let left = value(values.as_slice(), 0)?;
+            let right = value(values.as_slice(), 1)?;
+            of_two(alloc, function, left, right)
+        }
+        Form::Many => of_many(alloc, function, values),
+        Form::ReferenceFirst => {
+            let expr = reference(arguments, 0)?;
+            mapped(alloc, expr, value(values.as_slice(), 1)?)
+        }
+        Form::ReferenceLast => {
+            let elements = value(values.as_slice(), 0)?;
+            by_keys(alloc, function, elements, reference(arguments, 1)?)
+        }
+    }
+}
+
+/// The values of arguments; a reference has none.
+#[cycle(query)]
+fn arguments_at<'a>(
+    alloc: Global,
+    arguments: &'a [Argument<Expr>],
+    doc: &'a Doc,
+) -> Result<Vec<Option<Seen<'a>>>, QueryFault>
+    ensures { GivesBy (λ values. seen_values values.items) (arguments_at (map (argument_with meaning) arguments.now) doc.now) result }
+{
+    let mut values = Vec::new(alloc);
+    for argument in arguments {
+        match argument {
+            Argument::Value(expr) => values.push(Some(look(alloc, expr, doc)?))?,
+            Argument::Reference(_) => values.push(None)?,
+        }
+    }
+    Ok(values)
+}
+
+/// The reference at a place among the arguments.
+fn reference(arguments: &[Argument<Expr>], at: usize) -> Result<&Expr, QueryFault>
+    ensures value { GivesBy (λ expr. meaning expr.now) (reference_in at (map (argument_with meaning) arguments.now)) result }
+    ensures within { IfOk result (λ expr. weight expr.now < arguments_weight (map (argument_with weight) arguments.now)) }
+{
+    match arguments.get(at) {
+        Some(Argument::Reference(expr)) => Ok(expr),
+        Some(Argument::Value(_)) => Err(QueryFault::TypeFault),
+        None => Err(QueryFault::TypeFault),
+    }
+}
+
+/// The values of an expression for the elements of a list, nulls too.
+#[cycle(query)]
+fn mapped<'a>(alloc: Global, expr: &Expr, doc: &Doc) -> Result<Seen<'a>, QueryFault>
+    ensures { GivesBy seen_doc (map_of (meaning expr.now) doc.now) result }
+{
+    let items = items(doc)?;
+    let mut made = List::new(alloc);
+    for item in items {
+        made.push(look(alloc, expr, item)?.into_doc(alloc)?)?;
+    }
+    Ok(Seen::Made(Doc::Items(made)))
+}
+
+/// A function that goes by the keys of elements.
+#[cycle(query)]
+fn by_keys<'a>(
+    alloc: Global,
+    function: Function,
+    doc: &Doc,
+    expr: &Expr,
+) -> Result<Seen<'a>, QueryFault>
+    ensures { GivesBy seen_doc (of_elements function doc.now (meaning expr.now)) result }
+{
+    match function {
+        Function::SortBy => sort_by(alloc, doc, expr),
+        Function::MinBy => min_by(alloc, doc, expr),
+        Function::MaxBy => max_by(alloc, doc, expr),
+        _ => Err(QueryFault::TypeFault),
+    }
+}
+
+#[cycle(query)]
+fn sort_by<'a>(alloc: Global, doc: &Doc, expr: &Expr) -> Result<Seen<'a>, QueryFault>
+    ensures { GivesBy seen_doc (sort_by_of doc.now (meaning expr.now)) result }
+{
+    let mut entries = keyed(alloc, expr, items(doc)?)?;
+    ascend(&mut entries)?;
+    Ok(Seen::Made(in_order(alloc, entries.as_slice())?))
+}
+
+#[cycle(query)]
+fn min_by<'a>(alloc: Global, doc: &Doc, expr: &Expr) -> Result<Seen<'a>, QueryFault>
+    ensures { GivesBy seen_doc (min_by_of doc.now (meaning expr.now)) result }
+{
+    let mut entries = keyed(alloc, expr, items(doc)?)?;
+    ascend(&mut entries)?;
+    Ok(Seen::Made(first_element(alloc, entries.as_slice())?))
+}
+
+#[cycle(query)]
+fn max_by<'a>(alloc: Global, doc: &Doc, expr: &Expr) -> Result<Seen<'a>, QueryFault>
+    ensures { GivesBy seen_doc (max_by_of doc.now (meaning expr.now)) result }
+{
+    let mut entries = keyed(alloc, expr, items(doc)?)?;
+    descend(&mut entries)?;
+    Ok(Seen::Made(first_element(alloc, entries.as_slice())?))
+}
+
+/// The elements with their keys, each of which is of the kind of the first.
+#[cycle(query)]
+fn keyed<'a>(alloc: Global, expr: &'a Expr, items: &'a [Doc]) -> Result<Vec<Entry<'a>>, QueryFault>
+    ensures { GivesBy (λ entries. entries_of entries.items) (keyed (meaning expr.now) items.now) result }
+{
+    let mut entries = Vec::new(alloc);
+    for item in items {
+        let key = look(alloc, expr, item)?;
+        if !fits(entries.as_slice(), &key) {
+            return Err(QueryFault::TypeFault);
+        }
+        entries.push(Entry { key, element: item })?;
+    }
+    Ok(entries)
+}

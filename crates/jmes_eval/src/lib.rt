@@ -1,0 +1,30 @@
+//! The meaning of JMESPath queries.
+#![tactic(auto)]
+
+mod arguments;
+mod elements;
+mod equality;
+mod evaluate;
+mod keys;
+mod kinds;
+mod lists;
+mod merging;
+mod numbers;
+mod operators;
+mod orders;
+mod places;
+mod query_fault;
+mod seen;
+mod setting;
+mod signature;
+mod slices;
+mod sorting;
+mod texts;
+mod tight;
+
+pub use evaluate::search;
+pub use query_fault::QueryFault;
+pub use setting::set;
+
+#[cfg(test)]
+mod tests;
