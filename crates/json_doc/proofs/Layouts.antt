@@ -23,20 +23,19 @@ pub text_at-Null : (layout : Layout) (level : ℕ) → text_at layout level Null
 text_at-Null Compact level = search (rules, the_lemmas)
 text_at-Null Indented level = search (rules, the_lemmas)
 
--- the compact text at each variant
-pub compact-Null : compact_of Null ≡ codes "null"
-compact-Null = search (rules, the_lemmas)
+pub text_at-Flag : (layout : Layout) (level : ℕ) (flag : Bool) → text_at layout level (Flag flag) ≡ flag_text flag
+text_at-Flag Compact level flag = search (rules, the_lemmas)
+text_at-Flag Indented level flag = search (rules, the_lemmas)
 
-pub compact-Flag : (flag : Bool) → compact_of (Flag flag) ≡ flag_text flag
-compact-Flag flag = search (rules, the_lemmas)
+pub text_at-Number : (layout : Layout) (level : ℕ) (n : Decimal) → text_at layout level (Number n) ≡ decimal_text n
+text_at-Number Compact level n = search (rules, the_lemmas)
+text_at-Number Indented level n = search (rules, the_lemmas)
 
-pub compact-Number : (n : Decimal) → compact_of (Number n) ≡ decimal_text n
-compact-Number n = search (rules, the_lemmas)
+pub text_at-Str : (layout : Layout) (level : ℕ) (t : List ℕ) → text_at layout level (Str t) ≡ quoted layout t
+text_at-Str Compact level t = search (rules, the_lemmas)
+text_at-Str Indented level t = search (rules, the_lemmas)
 
-pub compact-Str : (t : List ℕ) → compact_of (Str t) ≡ quoted Compact t
-compact-Str t = search (rules, the_lemmas)
-
-pub compact-Items : (ds : List Doc) → compact_of (Items ds) ≡ 91 ∷ joined (codes ", ") (map compact_of ds) ++ 93 ∷ []
+compact-Items : (ds : List Doc) → compact_of (Items ds) ≡ 91 ∷ joined (codes ", ") (map compact_of ds) ++ 93 ∷ []
 compact-Items ds = search (rules, the_lemmas)
 
 at_level : (ds : List Doc) (level : ℕ) → map (λ t. t level) (map indented_at ds) ≡ map (λ d. indented_at d level) ds
@@ -63,7 +62,7 @@ indented_fields : (ps : List (Pair Doc)) (level : ℕ) → map (indented_field l
 indented_fields [] level = refl
 indented_fields (p ∷ ps) level = ap (λ ts. field_text Indented level p ∷ ts) (indented_fields ps level)
 
-pub compact-Fields : (ps : List (Pair Doc)) → compact_of (Fields ps) ≡ 123 ∷ joined (codes ", ") (map (field_text Compact 0) ps) ++ 125 ∷ []
+compact-Fields : (ps : List (Pair Doc)) → compact_of (Fields ps) ≡ 123 ∷ joined (codes ", ") (map (field_text Compact 0) ps) ++ 125 ∷ []
 compact-Fields ps =
     ap compact_of (sym (rolls-Fields ps)) ∙ fold-roll-Doc (List ℕ) compact_step (Doc-F.Fields ps)
     ∙ ap (λ ts. 123 ∷ joined (codes ", ") ts ++ 125 ∷ []) (compact_fields ps)

@@ -1,5 +1,6 @@
--- Escapes, texts and keys that were written compactly, as the grammar spells them.
-use Rattle.std.proofs.Common.{◌≡◌, ℕ, ◌+◌, ◌*◌, ◌-◌, ◌/◌, ◌%◌, ◌<◌, ◌≤◌, ◌==◌, ◌||◌, true, false, cond, inl, inr, ⊎_elim, List, [], ◌∷◌, ◌++◌, Some, None, refl, sym, ap, ◌∙◌, subst, arith, append_assoc}
+-- Escapes and texts that were written in either layout, as the grammar spells them.
+use Rattle.std.proofs.Common.{◌≡◌, ℕ, ◌+◌, ◌*◌, ◌-◌, ◌/◌, ◌%◌, ◌<◌, ◌≤◌, ◌==◌, ◌||◌, true, false, cond, inl, inr, ⊎_elim, List, [], ◌∷◌, ◌++◌, Some, None, refl, sym, ap, ◌∙◌, subst, arith, append_assoc, append-nil}
+use Rattle.std.specs.Prelude.{encode_utf8, encode_utf8_all}
 use Rattle.std.specs.Char.{IsScalar, digit_char}
 use Rattle.std.specs.Char.Escape.{encode_utf16}
 use Rattle.std.specs.Char.Utf16.{is_high_surrogate, is_low_surrogate}
@@ -8,21 +9,34 @@ use Rattle.std.specs.Option.{option_map_or}
 use Rattle.std.proofs.Math.Utf8.{scalar_cases}
 use Rattle.std.proofs.lemmas.Bool.{or_cases, eqb-true, and_parts, leb-true, cases_lt, lt-ltb, le-ltb}
 use Rattle.std.proofs.lemmas.Bool.Decides.{nat_tests}
-use Rattle.std.proofs.lemmas.Str.{digit_value-digit_char, encode_ascii}
-use Rattle.json_doc.specs.declared.layout.Layout.TheVariants.{Compact}
+use Rattle.std.proofs.lemmas.Str.{digit_value-digit_char, encode_ascii, encodes-append}
+use Rattle.json_doc.specs.declared.layout.Layout.{Layout}
+use Rattle.json_doc.specs.declared.layout.Layout.TheVariants.{Compact, Indented}
 use Rattle.json_doc.specs.Documents.{IsText}
 use Rattle.json_doc.specs.Escapes.{letter_of, unit_escape, is_bare, escaped, quoted}
 use Rattle.json_doc.specs.Grammar.{String}
 use Rattle.json_doc.specs.TextToken.{named_char, IsUnit, SpellsChar, unescaped, named, unit, pair, Spells}
 use Rattle.json_doc.proofs.TokenParts.{chosen}
 
--- bytes below 128
+-- characters below 128, which are their own bytes
 abbrev pub IsLow : List ℕ → Type 0
 IsLow bs = AllByRecursion (λ b. b < 128) bs
 
 pub IsLow-append : (xs ys : List ℕ) → IsLow xs → IsLow ys → IsLow (xs ++ ys)
 IsLow-append [] ys low low' = low'
 IsLow-append (x ∷ xs) ys low low' = (low.0, IsLow-append xs ys low.1 low')
+
+pub low_bytes : (bs : List ℕ) → IsLow bs → encode_utf8_all bs ≡ bs
+low_bytes [] low = refl
+low_bytes (b ∷ bs) low = ap (λ cs. cs ++ encode_utf8_all bs) (encode_ascii b low.0) ∙ ap (λ cs. b ∷ cs) (low_bytes bs low.1)
+
+-- What stands in front of other bytes, of two texts or of one and ASCII before it.
+
+pub split_bytes : (cs ds rest : List ℕ) → encode_utf8_all (cs ++ ds) ++ rest ≡ encode_utf8_all cs ++ (encode_utf8_all ds ++ rest)
+split_bytes cs ds rest = ap (λ bs. bs ++ rest) (encodes-append cs ds) ∙ append_assoc (encode_utf8_all cs) (encode_utf8_all ds) rest
+
+pub low_front : (cs ds rest : List ℕ) → IsLow cs → encode_utf8_all (cs ++ ds) ++ rest ≡ cs ++ (encode_utf8_all ds ++ rest)
+low_front cs ds rest low = split_bytes cs ds rest ∙ ap (λ bs. bs ++ (encode_utf8_all ds ++ rest)) (low_bytes cs low)
 
 -- The letters of escapes.
 
@@ -90,27 +104,34 @@ unit_low u small = (omega arith, (omega arith, (low_digit _ (omega arith), (low_
 -- Characters.
 
 -- what is written of a character that has no letter
-abbrev unlettered : ℕ → List ℕ
-unlettered c = cond (is_bare Compact c) (c ∷ []) (flat_map unit_escape (encode_utf16 c))
+abbrev unlettered : Layout → ℕ → List ℕ
+unlettered layout c = cond (is_bare layout c) (c ∷ []) (flat_map unit_escape (encode_utf16 c))
 
--- what is written of a character spells it, in ASCII
-record IsWritten (c : ℕ) (bs : List ℕ) : Type 0 where
-  spells : SpellsChar c bs
-  low : IsLow bs
+-- the bytes of what is written of a character spell it
+abbrev IsWritten : ℕ → List ℕ → Type 0
+IsWritten c cs = SpellsChar c (encode_utf8_all cs)
 
-bare_written : (c : ℕ) → IsScalar c → letter_of c ≡ None → is_bare Compact c ≡ true → IsWritten c (c ∷ [])
-bare_written c scalar none bare =
-    let range = and_parts _ _ bare in
-    let from = leb-true 32 c range.0 in
-    let to = leb-true c 126 range.1 in
+low_written : (c : ℕ) (cs : List ℕ) → IsLow cs → SpellsChar c cs → IsWritten c cs
+low_written c cs low spells = subst (SpellsChar c) (sym (low_bytes cs low)) spells
+
+letter_written : (c l : ℕ) → letter_of c ≡ Some l → IsWritten c (92 ∷ l ∷ [])
+letter_written c l e = let letter = letter_is c l e in low_written c (92 ∷ l ∷ []) (omega arith, (letter.1, tt)) (named letter.0 refl)
+
+-- no control is bare in either layout
+bare_from : (layout : Layout) (c : ℕ) → is_bare layout c ≡ true → 32 ≤ c
+bare_from Compact c bare = leb-true 32 c (and_parts _ _ bare).0
+bare_from Indented c bare = leb-true 32 c bare
+
+bare_written : (layout : Layout) (c : ℕ) → IsScalar c → letter_of c ≡ None → is_bare layout c ≡ true → IsWritten c (c ∷ [])
+bare_written layout c scalar none bare =
     let quote : c ≡ 34 → ⊥ = λ e. let letter = subst (λ k. letter_of k ≡ None) e none in cc in
     let backslash : c ≡ 92 → ⊥ = λ e. let letter = subst (λ k. letter_of k ≡ None) e none in cc in
-    record { spells = unescaped (scalar, from, quote, backslash) (sym (encode_ascii c (omega arith))); low = (omega arith, tt) }
+    unescaped (scalar, bare_from layout c bare, quote, backslash) (append-nil (encode_utf8 c))
 
 unit_written : (c : ℕ) → IsScalar c → c < 65536 → IsWritten c (flat_map unit_escape (encode_utf16 c))
 unit_written c scalar small =
     subst (λ b. IsWritten c (flat_map unit_escape (cond b (c ∷ []) ((0xD800 + (c - 0x10000) / 0x400) ∷ (0xDC00 + (c - 0x10000) % 0x400) ∷ [])))) (sym (lt-ltb c 65536 small))
-    (record { spells = unit (unit_is c small) scalar refl; low = unit_low c small })
+    (low_written c (unit_escape c) (unit_low c small) (unit (unit_is c small) scalar refl))
 
 high_unit : (k : ℕ) → k < 1048576 → is_high_surrogate (0xD800 + k / 0x400) ≡ true
 high_unit k small = grind (arith, nat_tests)
@@ -124,10 +145,10 @@ pair_written c wide most =
     let v : ℕ = 0xDC00 + (c - 0x10000) % 0x400 in
     let short : u < 65536 = omega arith in
     let short' : v < 65536 = omega arith in
-    subst (λ b. IsWritten c (flat_map unit_escape (cond b (c ∷ []) (u ∷ v ∷ [])))) (sym (le-ltb c 65536 wide)) (record {
-      spells = pair (digits_of u) (digits_of v) (unit_is u short) (high_unit (c - 0x10000) (omega arith)) (unit_is v short') (low_unit (c - 0x10000)) (omega arith) refl;
-      low = IsLow-append (unit_escape u) (unit_escape v) (unit_low u short) (unit_low v short');
-    })
+    let low = IsLow-append (unit_escape u) (unit_escape v) (unit_low u short) (unit_low v short') in
+    let spells = pair (digits_of u) (digits_of v) (unit_is u short) (high_unit (c - 0x10000) (omega arith)) (unit_is v short') (low_unit (c - 0x10000)) (omega arith) refl in
+    subst (λ b. IsWritten c (flat_map unit_escape (cond b (c ∷ []) (u ∷ v ∷ [])))) (sym (le-ltb c 65536 wide))
+    (low_written c (unit_escape u ++ unit_escape v) low spells)
 
 units_written : (c : ℕ) → IsScalar c → IsWritten c (flat_map unit_escape (encode_utf16 c))
 units_written c scalar = elim (cases_lt c 65536) [
@@ -136,31 +157,30 @@ units_written c scalar = elim (cases_lt c 65536) [
 ]
 
 -- a character without a letter
-plainly_written : (c : ℕ) → IsScalar c → letter_of c ≡ None → IsWritten c (unlettered c)
-plainly_written c scalar none =
-    elim (is_bare Compact c) as (λ b. is_bare Compact c ≡ b → IsWritten c (cond b (c ∷ []) (flat_map unit_escape (encode_utf16 c))))
-    [ true ↦ (λ bare. bare_written c scalar none bare) | false ↦ (λ other. units_written c scalar) ] refl
+plainly_written : (layout : Layout) (c : ℕ) → IsScalar c → letter_of c ≡ None → IsWritten c (unlettered layout c)
+plainly_written layout c scalar none =
+    elim (is_bare layout c) as (λ b. is_bare layout c ≡ b → IsWritten c (cond b (c ∷ []) (flat_map unit_escape (encode_utf16 c))))
+    [ true ↦ (λ bare. bare_written layout c scalar none bare) | false ↦ (λ other. units_written c scalar) ] refl
 
-escaped_written : (c : ℕ) → IsScalar c → IsWritten c (escaped Compact c)
-escaped_written c scalar =
-    elim (letter_of c) as (λ o. letter_of c ≡ o → IsWritten c (option_map_or (λ letter. 92 ∷ letter ∷ []) o (unlettered c))) [
-      | Some l ↦ (λ e. let letter = letter_is c l e in record { spells = named letter.0 refl; low = (omega arith, (letter.1, tt)) })
-      | None ↦ (λ e. plainly_written c scalar e)
-    ] refl
+escaped_written : (layout : Layout) (c : ℕ) → IsScalar c → IsWritten c (escaped layout c)
+escaped_written layout c scalar =
+    elim (letter_of c) as (λ o. letter_of c ≡ o → IsWritten c (option_map_or (λ letter. 92 ∷ letter ∷ []) o (unlettered layout c)))
+    [ Some l ↦ (λ e. letter_written c l e) | None ↦ (λ e. plainly_written layout c scalar e) ] refl
 
 -- Texts.
 
-spelled : (cs : List ℕ) → IsText cs → Spells cs (flat_map (escaped Compact) cs)
-spelled [] text = refl
-spelled (c ∷ cs) text = (escaped Compact c, flat_map (escaped Compact) cs, (escaped_written c text.0).spells, spelled cs text.1, refl)
+spelled : (layout : Layout) (cs : List ℕ) → IsText cs → Spells cs (encode_utf8_all (flat_map (escaped layout) cs))
+spelled layout [] text = refl
+spelled layout (c ∷ cs) text =
+    let front : List ℕ = encode_utf8_all (escaped layout c) in
+    let others : List ℕ = encode_utf8_all (flat_map (escaped layout) cs) in
+    (front, others, escaped_written layout c text.0, spelled layout cs text.1, encodes-append (escaped layout c) (flat_map (escaped layout) cs))
 
 -- a text in quotation marks stands in front as a string
-pub quoted-String : (t rest : List ℕ) → IsText t → String (quoted Compact t ++ rest) t rest
-quoted-String t rest text = ((flat_map (escaped Compact) t ++ 34 ∷ []) ++ rest, refl, (flat_map (escaped Compact) t, spelled t text, append_assoc (flat_map (escaped Compact) t) (34 ∷ []) rest))
-
-inside_low : (cs : List ℕ) → IsText cs → IsLow (flat_map (escaped Compact) cs)
-inside_low [] text = tt
-inside_low (c ∷ cs) text = IsLow-append (escaped Compact c) _ (escaped_written c text.0).low (inside_low cs text.1)
-
-pub quoted-IsLow : (t : List ℕ) → IsText t → IsLow (quoted Compact t)
-quoted-IsLow t text = (omega arith, IsLow-append (flat_map (escaped Compact) t) (34 ∷ []) (inside_low t text) (omega arith, tt))
+pub quoted-String : (layout : Layout) (t rest : List ℕ) → IsText t → String (encode_utf8_all (quoted layout t) ++ rest) t rest
+quoted-String layout t rest text =
+    let chars : List ℕ = flat_map (escaped layout) t in
+    let mark : IsLow (34 ∷ []) = (omega arith, tt) in
+    let bytes : encode_utf8_all (chars ++ 34 ∷ []) ++ rest ≡ encode_utf8_all chars ++ 34 ∷ rest
+    = split_bytes chars (34 ∷ []) rest ∙ ap (λ bs. encode_utf8_all chars ++ (bs ++ rest)) (low_bytes (34 ∷ []) mark) in
+    (encode_utf8_all (chars ++ 34 ∷ []) ++ rest, low_front (34 ∷ []) (chars ++ 34 ∷ []) rest mark, (encode_utf8_all chars, spelled layout t text, bytes))

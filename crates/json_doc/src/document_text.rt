@@ -21,9 +21,11 @@ pub fn compact(alloc: Global, doc: &Doc) -> Result<Text, OutOfMemory>
 }
 
 /// The text of a document with each item on a line of its own, four blanks a level; `{}` and `[]`
-/// for empty ones. Only `"`, `\` and control characters are escaped.
+/// for empty ones. Only `"`, `\` and control characters are escaped. `read` gives the document again,
+/// if it nests at most 100 deep.
 pub fn indented(alloc: Global, doc: &Doc) -> Result<Text, OutOfMemory>
-    ensures { IfOk result (λ text. text ≡ indented_of doc.now) }
+    ensures text { IfOk result (λ text. text ≡ indented_of doc.now) }
+    ensures reads { IfOk result (λ text. depth_of doc.now ≤ 100 → Reads (encode_utf8_all text) doc.now) }
 {
     let mut text = Text::new(alloc);
     write_doc(&mut text, doc, Layout::Indented, 0)?;

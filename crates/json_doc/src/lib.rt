@@ -43,7 +43,8 @@ pub use memory::OutOfMemory;
 pub use pairs::{Pair, Pairs};
 pub use read_fault::ReadFault;
 pub use read_laws::{
-    compact_reads_back, documents_are_json_texts, reading_is_grammar, reading_is_unique,
+    documents_are_json_texts, reading_is_grammar, reading_is_unique, texts_read_back,
 };
+pub use read_marks::skip_blanks;
 pub use reader::read;
 pub use text::Text;

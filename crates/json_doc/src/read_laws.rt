@@ -1,11 +1,12 @@
 //! What is true of every text, whichever is read.
-ghost use Rattle.std.specs.Prelude.{◌≡◌, ◌≤◌, ◌↔◌, ℕ, List, Ok, encode_utf8_all};
+ghost use Rattle.std.specs.Prelude.{◌≡◌, ◌≤◌, ◌↔◌, ◌++◌, ℕ, List, [], Ok, encode_utf8_all};
 ghost use Rattle.json_doc.specs.Compact.{compact_of};
 ghost use Rattle.json_doc.specs.declared.doc.Doc.{Doc};
 ghost use Rattle.json_doc.specs.declared.read_fault.ReadFault.{ReadFault};
 ghost use Rattle.json_doc.specs.Documents.{depth_of, IsProper};
 ghost use Rattle.json_doc.specs.Faults.{HasFault};
-ghost use Rattle.json_doc.specs.Grammar.{Reads};
+ghost use Rattle.json_doc.specs.Grammar.{Reads, Ws};
+ghost use Rattle.json_doc.specs.Indented.{indented_of};
 ghost use Rattle.json_doc.specs.JsonTexts.{IsJsonText};
 ghost use Rattle.json_doc.specs.Scan.{Scans};
 
@@ -22,9 +23,12 @@ pub fn reading_is_unique()
     ensures fault { (bytes : List ℕ) (f g : ReadFault) → HasFault bytes f → HasFault bytes g → f ≡ g }
 {}
 
-/// The compact text of a document is in the grammar as that document, if it nests at most 100 deep.
-pub fn compact_reads_back()
-    ensures { (d : Doc) → IsProper d → depth_of d ≤ 100 → Reads (encode_utf8_all (compact_of d)) d }
+/// The two texts of a document are in the grammar as that document, if it nests at most 100 deep;
+/// so is the indented one with blanks behind it, as a line end.
+pub fn texts_read_back()
+    ensures compact { (d : Doc) → IsProper d → depth_of d ≤ 100 → Reads (encode_utf8_all (compact_of d)) d }
+    ensures indented { (d : Doc) → IsProper d → depth_of d ≤ 100 → Reads (encode_utf8_all (indented_of d)) d }
+    ensures blanks_behind { (d : Doc) (blanks : List ℕ) → IsProper d → depth_of d ≤ 100 → Ws blanks [] → Reads (encode_utf8_all (indented_of d ++ blanks)) d }
 {}
 
 /// A document is a JSON text; the limits on depth and on numbers only take away.

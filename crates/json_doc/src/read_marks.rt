@@ -25,7 +25,8 @@ fn is_blank(b: u8) -> bool
     b == b' ' || b == b'\t' || b == b'\n' || b == b'\r'
 }
 
-/// The bytes without the blanks in front.
+/// The bytes without the blanks in front: spaces, tabs, line feeds and carriage returns (RFC 8259,
+/// section 2).
 pub fn skip_blanks(bytes: &[u8]) -> &[u8]
     ensures value { result.now ≡ skipped bytes.now }
     ensures within { length result.now ≤ length bytes.now }

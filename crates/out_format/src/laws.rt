@@ -1,17 +1,30 @@
 //! What is true of the definitions of the formats, whatever is printed.
-ghost use Rattle.std.specs.Prelude.{◌≡◌, ℕ, ◌∷◌, ◌++◌, List, map, length, encode_utf8_all, IsPermutation, Option};
+ghost use Rattle.std.specs.Prelude.{◌≡◌, ◌≤◌, ℕ, false, ◌∷◌, ◌++◌, List, map, length, encode_utf8_all, IsPermutation, Option};
 ghost use Rattle.std.specs.List.{AllByRecursion, flat_map};
-ghost use Rattle.json_doc.specs.declared.doc.Doc.{Doc};
+ghost use Rattle.json_doc.specs.declared.doc.Doc.{Doc, out-Doc};
 ghost use Rattle.json_doc.specs.declared.pairs.Pair.{Pair};
-ghost use Rattle.json_doc.specs.Documents.{IsProper};
+ghost use Rattle.json_doc.specs.Documents.{depth_of, IsProper};
+ghost use Rattle.json_doc.specs.Grammar.{Reads};
 ghost use Rattle.json_doc.specs.Keys.{keys, IsDistinct};
 ghost use Rattle.out_format.specs.Ascending.{IsAscending, has_key};
 ghost use Rattle.out_format.specs.Cells.{values};
+ghost use Rattle.out_format.specs.Json.{json_of, is_empty_object};
 ghost use Rattle.out_format.specs.Layers.{Layer, fields_in};
 ghost use Rattle.out_format.specs.Members.{sorted, scalar_members, columns, object_cells, texts};
 ghost use Rattle.out_format.specs.Scalars.{scalars_of, line_values};
 ghost use Rattle.out_format.specs.Text.{part_of};
 ghost use Rattle.out_format.specs.Sections.{width, column_width, filled, cell_in_column};
+
+use json_doc::texts_read_back;
+
+/// The JSON of a document is in RFC 8259's grammar as that document, if it nests at most 100 deep and
+/// is no empty object, of which nothing is printed.
+pub fn json_reads_back()
+    ensures { (doc : Doc) → IsProper doc → depth_of doc ≤ 100 → is_empty_object (out-Doc doc) ≡ false →
+        Reads (encode_utf8_all (json_of doc)) doc }
+{
+    texts_read_back();
+}
 
 /// The members of an object stand in ascending order of their keys' bytes, and are the object's
 /// own: none is lost and none comes twice where no two keys have the same bytes.

@@ -18,6 +18,6 @@ mod text_lines;
 
 pub use formats::{json, table, text};
 pub use laws::{
-    cells_fill_columns, cells_hold_scalars, columns_are_scalar_keys, members_are_sorted,
-    objects_fill_columns, text_holds_scalars,
+    cells_fill_columns, cells_hold_scalars, columns_are_scalar_keys, json_reads_back,
+    members_are_sorted, objects_fill_columns, text_holds_scalars,
 };
