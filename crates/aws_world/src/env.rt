@@ -18,18 +18,12 @@ impl Env {
         ensures { option_copied result ≡ value_of (chars name.now) self.now.pairs }
     {
         for (key, value) in self.pairs.as_slice() {
-            if is_text(key, name) {
+            if key.is(name) {
                 return value_set(value);
             }
         }
         None
     }
-}
-
-fn is_text(key: &Text, name: &str) -> bool
-    ensures { result ≡ bytes_eq key.now (chars name.now) }
-{
-    key.as_str() == name
 }
 
 fn value_set(value: &Text) -> Option<&Text>

@@ -4,12 +4,12 @@ ghost use Rattle.jmes_syntax.specs.Lexing.{kind_of, kind_at, mark_at, tokened, D
 ghost use Rattle.jmes_syntax.specs.Reading.{Finds, seen};
 
 use crate::delimited::{Quote, delimited};
-use crate::literals::{skip_blanks, value_token};
+use crate::literals::value_token;
 use crate::marks::{double_mark, single_mark};
 use crate::numbers::read_number;
 use crate::token::{Mark, Token};
 use crate::words::{begins_name, read_name};
-use json_doc::{List, OutOfMemory};
+use json_doc::{List, OutOfMemory, skip_blanks};
 use std::alloc::Global;
 
 /// The tokens of a text, and how many of its bytes are left at each and behind the last: at the end

@@ -1,32 +1,11 @@
-ghost use Rattle.std.specs.Prelude.{◌≡◌, ◌≤◌, ℕ, List, length, IfOk, IfSome, IfNone};
-ghost use Rattle.json_doc.specs.Grammar.{is_blank};
-ghost use Rattle.json_doc.specs.Scan.{skipped};
+ghost use Rattle.std.specs.Prelude.{◌≡◌, ℕ, List, IfOk, IfSome, IfNone};
 ghost use Rattle.jmes_syntax.specs.Literals.{in_quotes, DocumentOf, StringOf, BareOf, LiteralOf, TextOf, ValueOf};
 
 use crate::delimited::Quote;
 use crate::token::Token;
-use json_doc::{Bytes, Doc, OutOfMemory, ReadFault, Text, is_json_text, read};
+use json_doc::{Bytes, Doc, OutOfMemory, ReadFault, Text, is_json_text, read, skip_blanks};
 use std::alloc::Global;
 use std::str;
-
-fn is_blank(byte: u8) -> bool
-    ensures { result ≡ is_blank byte }
-{
-    byte == b' ' || byte == b'\t' || byte == b'\n' || byte == b'\r'
-}
-
-/// The bytes without the blanks in front.
-pub fn skip_blanks(bytes: &[u8]) -> &[u8]
-    ensures value { result.now ≡ skipped bytes.now }
-    ensures within { length result.now ≤ length bytes.now }
-{
-    for (at, byte) in bytes.iter().enumerate() {
-        if !is_blank(*byte) {
-            return &bytes[at..];
-        }
-    }
-    &bytes[bytes.len()..]
-}
 
 fn in_quotes(alloc: Global, text: &[u8]) -> Result<Bytes, OutOfMemory>
     ensures { IfOk result (λ made. made ≡ in_quotes text.now) }

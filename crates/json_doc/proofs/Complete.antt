@@ -10,7 +10,7 @@ use Rattle.json_doc.specs.declared.doc.Doc.{Doc}
 use Rattle.json_doc.specs.declared.pairs.Pair.{Pair}
 use Rattle.json_doc.specs.Keys.{put}
 use Rattle.json_doc.specs.Reading.{Read, ◌>>=◌}
-use Rattle.json_doc.specs.Grammar.{Ws, Structural, String, put_all, Reads, is_blank}
+use Rattle.json_doc.specs.Grammar.{Structural, String, put_all, Reads, is_blank}
 use Rattle.json_doc.specs.Grammar as g
 use Rattle.json_doc.specs.Scan.{made, skipped, behind, past, is_number_start, begins_number, scalar_at, key_at, ended, Value, Array, Object, Elements, Members, Scans}
 use Rattle.json_doc.specs.NumberToken.{Number, SpellsNumber, IsDigits, minus, is_exp_mark, number_at, ReadsNumber}

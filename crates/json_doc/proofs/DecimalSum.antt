@@ -1,26 +1,19 @@
 -- Sums of decimal fractions, and the least form of a fraction.
-use Rattle.std.proofs.Common.{suc, ◌≡◌, ℕ, ◌+◌, ◌-◌, ◌*◌, ◌/◌, ◌%◌, ◌^◌, ◌<◌, ◌≤◌, Bool, true, false, ◌+ℤ◌, ◌⊎◌, inl, inr, ⊎_elim, arith, refl, sym, ap, ◌∙◌}
+use Rattle.std.proofs.Common.{suc, ◌≡◌, ℕ, ◌+◌, ◌-◌, ◌*◌, ◌%◌, ◌^◌, ◌<◌, ◌≤◌, Bool, true, false, ◌+ℤ◌, ◌⊎◌, inl, inr, ⊎_elim, arith, refl, sym, ap, ◌∙◌}
 use Rattle.std.specs.Prelude.{Option, Some, None, IfSome, IfNone}
 use Rattle.std.proofs.lemmas.Bool.{cases_lt}
 use Rattle.std.proofs.lemmas.Nat.{pow-add}
-use Rattle.std.proofs.Math.Nat.{pow-suc}
+use Rattle.std.proofs.Math.Nat.{mul-pos, zero-mul, pow-suc}
 use Rattle.json_doc.specs.declared.decimal.Decimal.{Decimal}
 use Rattle.json_doc.specs.DecimalValue.{signed, IsSum}
+use Rattle.json_doc.specs.Exact.{exact, HasValue, HasNoDecimal}
 use Rattle.json_doc.specs.Least.{IsLeast}
 use Rattle.json_doc.proofs.DecimalOrder.{mul_cancel}
 use Rattle.json_doc.proofs.Places.{pow_ten-pos}
-use Rattle.json_doc.proofs.Signed.{signed-size, signed-scale, signed-cancel, sum-scale, sum-same, sum-more}
+use Rattle.json_doc.proofs.Signed.{signed-size, signed-from_size, sign-from_signed, signed-scale, signed-cancel, sum-scale, sum-same, sum-more}
 
 ten-power : (p : ℕ) → 0 < p → 10 ^ p ≡ 10 ^ (p - 1) * 10
 ten-power p some = let e : p ≡ suc (p - 1) = omega arith in ap (λ k. 10 ^ k) e ∙ pow-suc 10 (p - 1)
-
--- one zero less at the end
-pub without_zero : (m t size p : ℕ) → 0 < p → m % 10 ≡ 0 → m * t ≡ size * 10 ^ p → m / 10 * t ≡ size * 10 ^ (p - 1)
-without_zero m t size p some zero_last e =
-    let power = ap (λ k. size * k) (ten-power p some) in
-    let whole : m ≡ m / 10 * 10 = omega arith in
-    let f = ap (λ k. k * t) whole in
-    mul_cancel (m / 10 * t) (size * 10 ^ (p - 1)) 10 (omega arith) (omega (arith, e, power, f))
 
 -- a fraction with fewer places ends in a zero at more of them
 ends_in_zero : (m n p q : ℕ) → p < q → m * 10 ^ q ≡ n * 10 ^ p → n % 10 ≡ 0
@@ -48,6 +41,27 @@ least_magnitude n m q size scale e least f =
     let h = ap (λ k. k * 10 ^ q) f in
     one_form n.magnitude m n.scale q n.least least
     (mul_cancel (n.magnitude * 10 ^ q) (m * 10 ^ n.scale) (10 ^ scale) (pow_ten-pos scale) (omega (arith, g, h)))
+
+-- A decimal has the value m / 10^scale exactly where the numerators agree, signs and all.
+
+none-scaled : (m k : ℕ) → m ≡ 0 → m * 10 ^ k ≡ 0
+none-scaled m k none = ap (λ n. n * 10 ^ k) none ∙ zero-mul (10 ^ k)
+
+form_from_value : (d : Decimal) (n : Bool) (m scale : ℕ) → HasValue d (exact n m 0 scale) → signed d.is_negative (d.magnitude * 10 ^ scale) ≡ signed n (m * 10 ^ d.scale)
+form_from_value d n m scale value =
+    let none_up : 0 + d.scale ≡ d.scale = omega arith in
+    let size = value.size ∙ ap (λ k. m * 10 ^ k) none_up in
+    signed-from_size d.is_negative n (d.magnitude * 10 ^ scale) (m * 10 ^ d.scale) m size value.sign (none-scaled m d.scale)
+
+value_from_form : (d : Decimal) (n : Bool) (m scale : ℕ) → signed d.is_negative (d.magnitude * 10 ^ scale) ≡ signed n (m * 10 ^ d.scale) → HasValue d (exact n m 0 scale)
+value_from_form d n m scale form =
+    let none_up : d.scale ≡ 0 + d.scale = omega arith in
+    let positive = λ (negative : d.is_negative ≡ true). mul-pos (d.one_zero negative) (pow_ten-pos scale) in
+    let some_scaled = λ (some : 0 < m). mul-pos some (pow_ten-pos d.scale) in
+    record {
+      size = signed-size _ _ _ _ form ∙ ap (λ k. m * 10 ^ k) none_up;
+      sign = sign-from_signed d.is_negative n (d.magnitude * 10 ^ scale) (m * 10 ^ d.scale) m form positive some_scaled (none-scaled m d.scale);
+    }
 
 -- the sum of two whole numbers with their signs, where the second is smaller
 sum_of : (a b : Bool) (x y : ℕ) → y ≤ x → (n : Bool) × (m : ℕ) × (signed n m ≡ signed a x +ℤ signed b y) × ((m ≡ x + y) ⊎ (m ≡ x - y))
@@ -98,15 +112,12 @@ module _ (short long : Decimal) (ordered : short.scale ≤ long.scale) where
         signed-cancel _ _ _ _ (10 ^ short.scale) (pow_ten-pos short.scale) (ap (signed sum.is_negative) sum_size ∙ sym is ∙ sym whole_sum)
 
   module _ (n : Bool) (m : ℕ) (is_sum : signed n m ≡ signed short.is_negative raised_magnitude +ℤ signed long.is_negative long.magnitude) where
-    abbrev HasForm : Decimal → Type 0
-    HasForm sum = signed sum.is_negative (sum.magnitude * 10 ^ long.scale) ≡ signed n (m * 10 ^ sum.scale)
+    pub sum_found : (o : Option Decimal) → IfSome o (λ sum. HasValue sum (exact n m 0 long.scale)) → IfSome o (IsSum short long)
+    sum_found None value = tt
+    sum_found (Some sum) value = IsSum-from_form n m is_sum sum (form_from_value sum n m long.scale value)
 
-    pub sum_found : (o : Option Decimal) → IfSome o HasForm → IfSome o (IsSum short long)
-    sum_found None form = tt
-    sum_found (Some sum) form = IsSum-from_form n m is_sum sum form
-
-    pub none_found : (o : Option Decimal) → IfNone o ((sum : Decimal) → HasForm sum → ⊥) → IfNone o ((sum : Decimal) → IsSum short long sum → ⊥)
-    none_found None none = λ sum is. none sum (form_from_IsSum n m is_sum sum is)
+    pub none_found : (o : Option Decimal) → IfNone o (HasNoDecimal (exact n m 0 long.scale)) → IfNone o ((sum : Decimal) → IsSum short long sum → ⊥)
+    none_found None none = λ sum is. none sum (value_from_form sum n m long.scale (form_from_IsSum n m is_sum sum is))
     none_found (Some sum) none = tt
 
   -- where the first is raised past any magnitude, no decimal fraction is the sum

@@ -9,7 +9,7 @@ use Rattle.json_doc.specs.declared.doc.Doc.{Doc}
 use Rattle.json_doc.specs.declared.pairs.Pair.{Pair}
 use Rattle.json_doc.specs.declared.stop.Stop.{Stop}
 use Rattle.json_doc.specs.declared.stop.Stop.TheVariants.{Syntax}
-use Rattle.json_doc.specs.Grammar.{Ws, Structural, Reads}
+use Rattle.json_doc.specs.Grammar.{Ws, Reads}
 use Rattle.json_doc.specs.Grammar as g
 use Rattle.json_doc.specs.JsonTexts.{Value, Values, Members, Member, IsJsonText}
 use Rattle.json_doc.specs.NumberToken.{Number, number_at}

@@ -1,5 +1,7 @@
 -- Whole numbers with their signs, added and scaled.
-use Rattle.std.proofs.Common.{◌≡◌, ◌≢◌, ℕ, ◌+◌, ◌-◌, ◌*◌, ◌<◌, ◌≤◌, Bool, true, false, ◌+ℤ◌, arith, refl, ap}
+use Rattle.std.proofs.Common.{◌≡◌, ◌≢◌, ℕ, ◌+◌, ◌-◌, ◌*◌, ◌<◌, ◌≤◌, Bool, ◌&&◌, true, false, ◌+ℤ◌, inl, inr, arith, refl, ap}
+use Rattle.std.specs.Prelude.{nat_lt}
+use Rattle.std.proofs.lemmas.Bool.{cases_lt, lt-ltb, le-ltb}
 use Rattle.std.proofs.lemmas.Int.{ints}
 use Rattle.json_doc.specs.DecimalValue.{signed}
 use Rattle.json_doc.proofs.DecimalOrder.{mul_cancel}
@@ -39,6 +41,41 @@ signed-size true true x y e = omega (arith, ints)
 signed-size true false x y e = omega (arith, ints)
 signed-size false true x y e = omega (arith, ints)
 signed-size false false x y e = omega (arith, ints)
+
+both_zero : (n n' : Bool) → signed n 0 ≡ signed n' 0
+both_zero true true = refl
+both_zero true false = omega (arith, ints)
+both_zero false true = omega (arith, ints)
+both_zero false false = refl
+
+sign_kept : (n : Bool) (y : ℕ) → signed (n && true) y ≡ signed n y
+sign_kept true y = refl
+sign_kept false y = refl
+
+same_sign : (n n' : Bool) (x y : ℕ) → signed n x ≡ signed n' y → 0 < y → n ≡ (n' && true)
+same_sign true true x y e some = refl
+same_sign true false x y e some = absurd (omega (arith, ints))
+same_sign false true x y e some = absurd (omega (arith, ints))
+same_sign false false x y e some = refl
+
+no_sign : (n n' : Bool) (x y : ℕ) → signed n x ≡ signed n' y → (n ≡ true → 0 < x) → y ≡ 0 → n ≡ (n' && false)
+no_sign true true x y e negative none = let some = negative refl in absurd (omega (arith, ints))
+no_sign true false x y e negative none = let some = negative refl in absurd (omega (arith, ints))
+no_sign false true x y e negative none = refl
+no_sign false false x y e negative none = refl
+
+-- one size, and the sign of what it counts, which zero has not
+pub signed-from_size : (n n' : Bool) (x y m : ℕ) → x ≡ y → n ≡ (n' && nat_lt 0 m) → (m ≡ 0 → y ≡ 0) → signed n x ≡ signed n' y
+signed-from_size n n' x y m e sign none = elim (cases_lt 0 m) [
+  | inl some ↦ rw (e, sign, lt-ltb 0 m some) (sign_kept n' y)
+  | inr zero ↦ let e' = none (omega arith) in rw (e, e') (both_zero n n')
+]
+
+pub sign-from_signed : (n n' : Bool) (x y m : ℕ) → signed n x ≡ signed n' y → (n ≡ true → 0 < x) → (0 < m → 0 < y) → (m ≡ 0 → y ≡ 0) → n ≡ (n' && nat_lt 0 m)
+sign-from_signed n n' x y m e negative some none = elim (cases_lt 0 m) [
+  | inl more ↦ rw (lt-ltb 0 m more) (same_sign n n' x y e (some more))
+  | inr zero ↦ rw (le-ltb 0 m zero) (no_sign n n' x y e negative (none (omega arith)))
+]
 
 pub signed-scale : (n n' : Bool) (x y k : ℕ) → signed n x ≡ signed n' y → signed n (x * k) ≡ signed n' (y * k)
 signed-scale n n' x y k e =

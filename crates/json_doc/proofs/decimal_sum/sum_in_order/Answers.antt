@@ -24,11 +24,11 @@ returns-clause-some c =
     let short = c.args.short.now in
     let long = c.args.long.now in
     let raised = c.in_ok-raised.ensures.1 ∙ ap (λ k. short.magnitude * k) c.ten_to.ensures.value in
-    sum_found short long c.requires c.in_ok-is_negative.is_negative c.in_ok-is_negative.size (rw raised at c.in_ok-is_negative.ensures.some) c.least_form.result c.least_form.ensures.some
+    sum_found short long c.requires c.in_ok-is_negative.is_negative c.in_ok-is_negative.size (rw raised at c.in_ok-is_negative.ensures.some) c.decimal_of_parts.result c.decimal_of_parts.ensures.some
 
 pub returns-clause-none : goal.returns-clause-none
 returns-clause-none c =
     let short = c.args.short.now in
     let long = c.args.long.now in
     let raised = c.in_ok-raised.ensures.1 ∙ ap (λ k. short.magnitude * k) c.ten_to.ensures.value in
-    none_found short long c.requires c.in_ok-is_negative.is_negative c.in_ok-is_negative.size (rw raised at c.in_ok-is_negative.ensures.some) c.least_form.result c.least_form.ensures.none
+    none_found short long c.requires c.in_ok-is_negative.is_negative c.in_ok-is_negative.size (rw raised at c.in_ok-is_negative.ensures.some) c.decimal_of_parts.result c.decimal_of_parts.ensures.none
