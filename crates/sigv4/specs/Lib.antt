@@ -1,4 +1,5 @@
 pub mod Canonical
+pub mod FaultText
 pub mod Headers
 pub mod Hmac
 pub mod Joined

@@ -1,3 +1,7 @@
+ghost use Rattle.std.specs.Prelude.{◌≡◌, Some};
+ghost use Rattle.sigv4.specs.declared.sign_fault.SignFault.TheVariants.{OutOfMemory as out_of_memory};
+ghost use Rattle.sigv4.specs.FaultText.{fault_text};
+
 use json_doc::OutOfMemory;
 use std::error::Error;
 use std::fmt;
@@ -11,9 +15,6 @@ pub enum SignFault {
 }
 
 impl From<OutOfMemory> for SignFault {
-    ghost use Rattle.std.specs.Prelude.{◌≡◌};
-    ghost use Rattle.sigv4.specs.declared.sign_fault.SignFault.TheVariants.{OutOfMemory as out_of_memory};
-
     ghost from_gives = { λ _ fault. fault ≡ out_of_memory };
 
     fn from(_error: OutOfMemory) -> SignFault {
@@ -22,6 +23,8 @@ impl From<OutOfMemory> for SignFault {
 }
 
 impl fmt::Display for SignFault {
+    ghost output = { λ fault. Some (fault_text fault) };
+
     fn fmt<W: fmt::Write>(&self, f: &mut fmt::Formatter<W>) -> fmt::Result {
         match self {
             SignFault::BadClock(now) => write!(f, "No date for the moment {now}"),
