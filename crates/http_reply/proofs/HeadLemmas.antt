@@ -1,10 +1,10 @@
 -- What the parser answers of a head, and that names and values take no more than its bytes.
-use Rattle.std.proofs.Common.{◌≡◌, ℕ, ◌+◌, ◌≤◌, Bool, true, false, cond, inl, List, [], ◌∷◌, ◌++◌, length, take, drop, refl, sym, ap, ◌∙◌, subst, arith, append_assoc, length-append}
+use Rattle.std.proofs.Common.{◌≡◌, ℕ, ◌+◌, ◌≤◌, Bool, true, false, cond, inl, List, [], ◌∷◌, ◌++◌, length, take, drop, refl, sym, ap, ◌∙◌, subst, arith, length-append}
 use Rattle.std.specs.Prelude.{map, reverse, sum_by}
 use Rattle.std.specs.List.{flat_map}
 use Rattle.std.proofs.lemmas.List.{length-reverse, length-map, length-take, drop_all}
 use Rattle.std.proofs.lemmas.List.Sums.{sum_by-cons}
-use Rattle.httparse.specs.Grammar.{is_ows, skip_ows, trim_ows, print_end, print_blank, print_version, Field, field_value, print_field, print_section, ResponseHead, print_reason, print_response, ReadsResponse}
+use Rattle.httparse.specs.Grammar.{is_ows, skip_ows, trim_ows, print_end, print_blank, print_version, Field, field_value, print_field, print_section, ResponseHead, print_reason, ReadsResponse}
 use Rattle.httparse.specs.Grammar.{status_code}
 use Rattle.httparse.specs.declared.spans.HeaderSpan.{HeaderSpan}
 use Rattle.httparse.specs.declared.spans.ResponseSpans.{ResponseSpans}

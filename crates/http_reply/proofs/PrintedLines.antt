@@ -1,13 +1,12 @@
 -- Where the lines and heads that the grammar prints end.
-use Rattle.std.proofs.Common.{◌≡◌, ℕ, zero, suc, ◌+◌, ◌<◌, ◌≤◌, Bool, true, false, cond, eqb, ◌&&◌, List, [], ◌∷◌, ◌++◌, length, get_or, Option, None, Some, refl, sym, ap, ◌∙◌, subst, arith, zero-add, append_assoc, length-append, append-nil}
-use Rattle.std.specs.Prelude.{All, option_map, count_by, sum_by}
-use Rattle.std.specs.List.{flat_map}
+use Rattle.std.proofs.Common.{◌≡◌, ℕ, zero, suc, ◌+◌, ◌<◌, ◌≤◌, Bool, true, false, cond, eqb, ◌&&◌, List, [], ◌∷◌, ◌++◌, length, get_or, Option, None, Some, refl, sym, ap, ◌∙◌, arith, zero-add, append_assoc, length-append, append-nil}
+use Rattle.std.specs.Prelude.{All, option_map, count_by}
 use Rattle.std.specs.Option.{option_or}
-use Rattle.std.specs.Char.{is_ascii_digit, is_ascii_hexdigit}
+use Rattle.std.specs.Char.{is_ascii_digit}
 use Rattle.std.proofs.lemmas.Bool.{ne_eqb, false≢true}
 use Rattle.std.proofs.lemmas.List.Elements.{All-head, All-tail}
 use Rattle.std.proofs.lemmas.List.Sums.{sum_by-append}
-use Rattle.httparse.specs.Grammar.{is_token_byte, is_value_byte, is_ows, is_extension_byte, AllPass, LineEnd, crlf, lf, print_end, print_blank, print_version, Field, IsField, print_field, print_section, ResponseHead, IsResponseHead, print_reason, reason_phrase, print_response, ChunkLine, IsChunkLine, print_extension, IsExtension, print_chunk_line}
+use Rattle.httparse.specs.Grammar.{is_token_byte, is_value_byte, AllPass, LineEnd, crlf, lf, print_end, print_blank, print_version, Field, IsField, print_section, ResponseHead, IsResponseHead, print_reason, reason_phrase, print_response}
 use Rattle.httparse.proofs.GrammarLemmas.{print_response-append, cons-append}
 use Rattle.http_reply.specs.Cuts.{empty_line, head_end, line_end}
 use Rattle.http_reply.specs.Printed.{IsPlainHead}

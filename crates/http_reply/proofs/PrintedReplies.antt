@@ -1,6 +1,6 @@
 -- A reply that the grammar prints is answered as whole.
 use Rattle.std.proofs.Common.{◌≡◌, ℕ, zero, suc, ◌+◌, ◌<◌, ◌≤◌, inl, inr, Bool, true, false, cond, eqb, leb, ◌&&◌, List, [], ◌∷◌, ◌++◌, length, take, drop, Option, None, Some, MatchBool, refl, sym, ap, ◌∙◌, subst, arith, zero-add, append_assoc, length-append, append-nil}
-use Rattle.std.specs.Prelude.{All, count_by, map, is_some}
+use Rattle.std.specs.Prelude.{All, is_some}
 use Rattle.std.specs.List.{flat_map}
 use Rattle.std.specs.Char.{is_ascii_hexdigit}
 use Rattle.std.proofs.lemmas.Bool.{ne_eqb}
@@ -8,15 +8,13 @@ use Rattle.std.proofs.lemmas.Bool.Decides.{nat_tests}
 use Rattle.std.proofs.lemmas.List.{take_at, drop_at, drop-drop}
 use Rattle.std.proofs.lemmas.List.Elements.{All-head, All-tail}
 use Rattle.httparse.specs.Ascii.{crlf_bytes}
-use Rattle.httparse.specs.Grammar.{is_ows, is_extension_byte, AllPass, LineEnd, crlf, print_end, Field, IsField, print_section, ResponseHead, print_response, ReadsResponse, ChunkLine, IsChunkLine, print_extension, IsExtension, print_chunk_line, chunk_size}
+use Rattle.httparse.specs.Grammar.{is_ows, is_extension_byte, LineEnd, crlf, print_end, Field, IsField, print_section, ResponseHead, print_response, ChunkLine, IsChunkLine, print_extension, IsExtension, print_chunk_line, chunk_size}
 use Rattle.aws_world.specs.declared.message.Reply.{Reply}
-use Rattle.http_reply.specs.declared.kinds.Kind.{Kind}
-use Rattle.http_reply.specs.declared.kinds.Kind.TheVariants.{Interim, NoBody, Chunked, Fixed, ToEnd}
-use Rattle.http_reply.specs.declared.outcome.Outcome.{Outcome}
+use Rattle.http_reply.specs.declared.kinds.Kind.TheVariants.{Interim}
 use Rattle.http_reply.specs.declared.outcome.Outcome.TheVariants.{Whole, TooLarge}
-use Rattle.http_reply.specs.Cuts.{empty_line, head_end, line_end}
+use Rattle.http_reply.specs.Cuts.{empty_line, line_end}
 use Rattle.http_reply.specs.Machine.{Phase, heads, fixed, lines, chunk, trailers, to_end, Step, wait, move, decide, with_more, reply_of, after_head, JudgesHead, CutsHead, after_line, JudgesLine, CutsLine, after_chunk, trailer_step, Does, Leads, Decides}
-use Rattle.http_reply.specs.Printed.{Chunk, print_chunk, Body, none, sized, chunked, print_body, body_bytes, trailer_size, PrintedReply, print_reply, IsPlainHead, kind_after, IsChunk, IsBodyOf, IsPrinted, PrintedIsWhole, EndedIsWhole}
+use Rattle.http_reply.specs.Printed.{Chunk, print_chunk, Body, none, sized, chunked, print_body, body_bytes, trailer_size, print_reply, IsPlainHead, kind_after, IsChunk, IsBodyOf, PrintedIsWhole, EndedIsWhole}
 use Rattle.http_reply.proofs.MoveLemmas.{leads_join, leads_one, leads_none, decides_after}
 use Rattle.http_reply.proofs.OutcomeLemmas.{seen_all, front_decides}
 use Rattle.http_reply.proofs.PrintedLines.{HasNoFeed, HasNoFeed-pass, HasNoFeed-append, line_end-printed, empty_line-end, field_text, section-cons, length-section-cons, head_end-printed, feeds, feeds-head, HasNoFeed-field, empty_line-field}

@@ -1,17 +1,17 @@
 -- A phase that waits has found no end, so the search goes on behind its bytes.
-use Rattle.std.proofs.Common.{◌≡◌, ℕ, suc, ◌+◌, ◌-◌, ◌<◌, ◌≤◌, ◌⊎◌, inl, inr, Bool, true, false, cond, eqb, leb, ◌&&◌, List, [], ◌++◌, length, take, drop, Option, None, Some, MatchBool, refl, sym, ap, ◌∙◌, subst, arith}
-use Rattle.std.specs.Prelude.{option_map, is_some}
+use Rattle.std.proofs.Common.{◌≡◌, ℕ, suc, ◌+◌, ◌-◌, inl, inr, Bool, true, false, cond, List, [], ◌++◌, length, take, Option, None, Some, MatchBool, refl, sym, ap, subst, arith}
+use Rattle.std.specs.Prelude.{option_map}
 use Rattle.std.proofs.lemmas.Bool.{cases_lt}
 use Rattle.httparse.specs.Grammar.{chunk_size}
 use Rattle.aws_world.specs.declared.message.Reply.{Reply}
 use Rattle.http_reply.specs.declared.kinds.Kind.{Kind}
 use Rattle.http_reply.specs.declared.kinds.Kind.TheVariants.{Interim, NoBody, Chunked, Fixed, ToEnd, Malformed as Bad, TooLarge as Big}
-use Rattle.http_reply.specs.declared.outcome.Outcome.TheVariants.{Whole, Malformed, TooLarge}
+use Rattle.http_reply.specs.declared.outcome.Outcome.TheVariants.{Whole, TooLarge}
 use Rattle.http_reply.specs.declared.steps.Due.{Due}
 use Rattle.http_reply.specs.declared.steps.Due.TheVariants as due
-use Rattle.http_reply.specs.Cuts.{empty_line, head_end, line_end}
+use Rattle.http_reply.specs.Cuts.{head_end, line_end}
 use Rattle.http_reply.specs.Kinds.{kind_of}
-use Rattle.http_reply.specs.Machine.{Phase, heads, lines, chunk, trailers, Step, wait, move, decide, reply_of, after_head, JudgesHead, CutsHead, after_line, JudgesLine, CutsLine, trailer_step}
+use Rattle.http_reply.specs.Machine.{Phase, chunk, trailers, wait, move, decide, reply_of, after_head, JudgesHead, CutsHead, JudgesLine, CutsLine, trailer_step}
 use Rattle.http_reply.specs.Reading.{IsScanned}
 use Rattle.http_reply.proofs.CutLemmas.{head_end_from, line_end_from}
 

@@ -1,10 +1,10 @@
 -- One phase makes one step of the bytes, keeps it as more bytes come, and takes some of them.
-use Rattle.std.proofs.Common.{◌≡◌, ℕ, zero, suc, ◌+◌, ◌-◌, ◌<◌, ◌≤◌, min, ◌⊎◌, inl, inr, Bool, true, false, cond, eqb, leb, ltb, ◌&&◌, List, [], ◌∷◌, ◌++◌, length, get_or, take, drop, Option, None, Some, MatchBool, refl, sym, ap, ◌∙◌, subst, arith, add-one, length-append, append-nil, length-take, length-drop}
+use Rattle.std.proofs.Common.{◌≡◌, ℕ, zero, suc, ◌+◌, ◌-◌, ◌<◌, ◌≤◌, inl, inr, Bool, true, false, cond, eqb, leb, ◌&&◌, List, [], ◌∷◌, ◌++◌, length, take, drop, Option, None, Some, MatchBool, refl, sym, ap, ◌∙◌, subst, arith, add-one, length-append, length-drop}
 use Rattle.std.specs.Prelude.{count_by, is_some}
 use Rattle.std.proofs.lemmas.Bool.{false≢true}
 use Rattle.std.proofs.lemmas.Bool.Decides.{nat_tests}
-use Rattle.std.proofs.lemmas.List.{take-append-le, drop-append-le, length-take-le, drop_all}
-use Rattle.httparse.specs.Grammar.{ResponseHead, ReadsResponse, ChunkLine, ReadsChunkLine, chunk_size}
+use Rattle.std.proofs.lemmas.List.{take-append-le, drop-append-le, length-take-le}
+use Rattle.httparse.specs.Grammar.{chunk_size}
 use Rattle.httparse.proofs.GrammarLemmas.{response_unique}
 use Rattle.httparse.proofs.ChunkLemmas.{chunk_line_unique}
 use Rattle.aws_world.specs.declared.message.Reply.{Reply}
@@ -14,7 +14,7 @@ use Rattle.http_reply.specs.declared.outcome.Outcome.{Outcome}
 use Rattle.http_reply.specs.declared.outcome.Outcome.TheVariants.{Whole, Malformed, TooLarge}
 use Rattle.http_reply.specs.Cuts.{empty_line, head_end, line_end}
 use Rattle.http_reply.specs.Kinds.{kind_of}
-use Rattle.http_reply.specs.Machine.{Phase, heads, fixed, lines, chunk, trailers, to_end, Step, wait, move, decide, with_more, reply_of, after_head, ReadsHead, JudgesHead, CutsHead, after_line, JudgesLine, CutsLine, after_chunk, trailer_step, Does}
+use Rattle.http_reply.specs.Machine.{Phase, heads, fixed, lines, chunk, trailers, to_end, Step, wait, move, decide, with_more, reply_of, after_head, JudgesHead, CutsHead, after_line, JudgesLine, CutsLine, after_chunk, trailer_step, Does}
 use Rattle.http_reply.proofs.CutLemmas.{Later, IsEndWithin, line_end_within, line_end_later, head_end_within, head_end_later}
 
 -- the step isn't to wait

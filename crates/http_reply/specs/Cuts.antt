@@ -1,5 +1,5 @@
 -- Where the heads and the lines of a reply end (RFC 9112, sections 2.1, 2.2 and 7.1).
-use Rattle.std.specs.Prelude.{ℕ, ◌+◌, Bool, ◌&&◌, List, [], ◌∷◌, Option, None, Some, option_map, is_some, if◌then◌else◌, ◌==◌, slice_index}
+use Rattle.std.specs.Prelude.{ℕ, ◌+◌, ◌&&◌, List, [], ◌∷◌, Option, None, Some, option_map, if◌then◌else◌, ◌==◌, slice_index}
 use Rattle.std.specs.Option.{option_or}
 use Rattle.httparse.specs.Ascii.{line_feed, carriage_return}
 

@@ -1,5 +1,5 @@
 -- What a head says of the body (RFC 9112, section 6.3).
-use Rattle.std.specs.Prelude.{ℕ, Bool, ◌&&◌, ◌||◌, ◌*◌, ◌^◌, ◌≤◌, List, [], ◌∷◌, length, codes, bytes_eq, if◌then◌else◌, ◌==◌, nat_lt, nat_le}
+use Rattle.std.specs.Prelude.{ℕ, Bool, ◌&&◌, ◌||◌, ◌^◌, ◌≤◌, List, [], ◌∷◌, length, codes, bytes_eq, if◌then◌else◌, ◌==◌, nat_lt, nat_le}
 use Rattle.std.specs.List.{list_all}
 use Rattle.std.specs.Char.{is_ascii_digit}
 use Rattle.std.specs.Str.{str_eq_ignore_ascii_case}

@@ -1,5 +1,5 @@
 -- What a reader of replies keeps between two pieces.
-use Rattle.std.specs.Prelude.{◌≡◌, ℕ, ◌+◌, ◌≤◌, Bool, List, [], ◌++◌, length, take, drop, Option, option_map}
+use Rattle.std.specs.Prelude.{◌≡◌, ℕ, ◌+◌, ◌≤◌, Bool, List, [], ◌++◌, length, take, drop, option_map}
 use Rattle.aws_world.specs.declared.message.Reply.{Reply}
 use Rattle.http_reply.specs.declared.outcome.Outcome.TheVariants.{Whole, Malformed, TooLarge}
 use Rattle.http_reply.specs.declared.steps.Due.{Due}

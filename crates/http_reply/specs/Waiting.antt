@@ -1,9 +1,7 @@
 -- What a reader of a reply has received, and what it answers.
-use Rattle.std.specs.Prelude.{◌≡◌, ℕ, ◌≤◌, Bool, false, List, length, Option, None, Some}
+use Rattle.std.specs.Prelude.{◌≡◌, ℕ, Bool, false, List, length, Option, None, Some}
 use Rattle.http_reply.specs.declared.outcome.Outcome.{Outcome}
-use Rattle.http_reply.specs.declared.limits.TheConstants.{TOTAL_LIMIT}
 use Rattle.http_reply.specs.declared.reader.ReplyReader.{ReplyReader}
-use Rattle.http_reply.specs.Machine.{heads, Awaits}
 use Rattle.http_reply.specs.Outcome.{IsWaiting, IsOutcome}
 use Rattle.http_reply.specs.Reading.{phase_of, Fits}
 

@@ -1,6 +1,6 @@
 -- Blanks at the ends of texts, by their bytes.
-use Rattle.std.proofs.Common.{◌≡◌, ◌≢◌, ℕ, ◌<◌, ◌≤◌, length, take, subst, arith, ◌==◌, ◌||◌, ◌&&◌, Bool, true, false, List, [], ◌∷◌, ◌++◌, reverse, refl, sym, ap, ◌∙◌, lit<, inl, inr, ⊎_elim, ◌⊎◌, Option, None, Some, Bor, if◌then◌else◌}
-use Rattle.std.specs.Prelude.{encode_utf8_all, encode_utf8, MatchOption, IfSome, IfNone}
+use Rattle.std.proofs.Common.{◌≡◌, ◌≢◌, ℕ, ◌<◌, ◌≤◌, length, take, subst, arith, ◌==◌, ◌||◌, ◌&&◌, Bool, true, false, List, [], ◌∷◌, ◌++◌, reverse, refl, sym, ap, ◌∙◌, lit<, ⊎_elim, ◌⊎◌, Option, None, Some, Bor, if◌then◌else◌}
+use Rattle.std.specs.Prelude.{encode_utf8_all, MatchOption, IfSome, IfNone}
 use Rattle.std.specs.Str.{chars, IsUtf8}
 use Rattle.std.proofs.lemmas.Bool.{cond-true, cond-false}
 use Rattle.std.proofs.lemmas.Bool.Decides.{eqb_tells}

@@ -1,4 +1,4 @@
-use Rattle.std.proofs.Common.{◌≡◌, ◌<◌, true, get_or, ⊎_elim, sym, subst, arith}
+use Rattle.std.proofs.Common.{◌≡◌, true, get_or, ⊎_elim, sym, subst, arith}
 use Rattle.std.proofs.lemmas.Bool.{cases_lt}
 use Rattle.std.proofs.lemmas.List.Sums.{prefix_len_is}
 use Rattle.jmes_syntax.specs.Words.{is_name_byte}

@@ -1,4 +1,4 @@
-use Rattle.std.proofs.Common.{rules, ◌≡◌, ℕ, List, [], ◌+◌, ◌++◌, drop, map, get_or, sym, ap, ◌∙◌, Bor}
+use Rattle.std.proofs.Common.{rules, ℕ, List, [], ◌+◌, ◌++◌, drop, map, get_or, sym, ap, ◌∙◌, Bor}
 use Rattle.std.specs.Prelude.{codes}
 use Rattle.std.proofs.lemmas.List.{at_drop_more}
 use Rattle.sigv4.specs.Joined.{behind}

@@ -1,4 +1,4 @@
-use Rattle.std.proofs.Common.{◌≡◌, Some}
+use Rattle.std.proofs.Common.{◌≡◌}
 use Rattle.std.specs.Prelude.{IfOk, codes}
 use Rattle.sigv4.specs.Signature.{with_header}
 use Rattle.sigv4.proofs.signing.with_token.Goals as goal
