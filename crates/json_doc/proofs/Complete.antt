@@ -7,9 +7,10 @@ use Rattle.std.proofs.lemmas.Bool.{eqb-true, eqb-false, eq-eqb, false≢true, or
 use Rattle.std.proofs.lemmas.Result.{IfOk-at_ok}
 use Rattle.json_doc.specs.declared.doc.Doc as doc
 use Rattle.json_doc.specs.declared.doc.Doc.{Doc}
-use Rattle.json_doc.specs.declared.pairs.Pair.{Pair}
-use Rattle.json_doc.specs.Keys.{put}
-use Rattle.json_doc.specs.Reading.{Read, ◌>>=◌}
+use Rattle.texts.specs.declared.pairs.Pair.{Pair}
+use Rattle.texts.specs.Keys.{put}
+use Rattle.json_doc.specs.Reading.{Read}
+use Rattle.texts.specs.Calls.{◌>>=◌}
 use Rattle.json_doc.specs.Grammar.{Structural, String, put_all, Reads, is_blank}
 use Rattle.json_doc.specs.Grammar as g
 use Rattle.json_doc.specs.Scan.{made, skipped, behind, past, is_number_start, begins_number, scalar_at, key_at, ended, Value, Array, Object, Elements, Members, Scans}

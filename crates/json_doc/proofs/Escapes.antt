@@ -7,7 +7,8 @@ use Rattle.std.proofs.Math.Utf8.{low_scalar}
 use Rattle.std.proofs.lemmas.Bool.{and_parts, and_from, ltb-true, leb-true, le-leb, lt-ltb, cases_lt, cases_order, eqb-true}
 use Rattle.std.proofs.lemmas.Bool.Decides.{nat_tests}
 use Rattle.json_doc.specs.declared.stop.Stop.{Stop}
-use Rattle.json_doc.specs.Reading.{◌>>=◌, byte_in}
+use Rattle.json_doc.specs.Reading.{byte_in}
+use Rattle.texts.specs.Calls.{◌>>=◌}
 use Rattle.json_doc.specs.TextToken.{low_half_at, unit_at, unicode_at, named_char, escape_at, IsUnit, SpellsChar, unescaped, named, unit, pair}
 use Rattle.json_doc.proofs.TokenParts.{chosen, ok_same, bind_then, IsHexIn, byte_in_ok, hex_in_ok}
 use Rattle.json_doc.proofs.Utf8Parts.{high_scalar}

@@ -10,13 +10,13 @@ use Rattle.json_doc.specs.declared.doc.Doc.TheOpen.{Doc-F}
 use Rattle.json_doc.specs.declared.doc.Doc.TheFolds.{fold-roll-Doc}
 use Rattle.json_doc.specs.declared.layout.Layout.{Layout}
 use Rattle.json_doc.specs.declared.layout.Layout.TheVariants.{Compact, Indented}
-use Rattle.json_doc.specs.declared.pairs.Pair.{Pair}
+use Rattle.texts.specs.declared.pairs.Pair.{Pair}
 use Rattle.json_doc.specs.Compact.{compact_of, compact_step, flag_text, compact_field}
 use Rattle.json_doc.specs.declared.decimal.Decimal.{Decimal}
 use Rattle.json_doc.specs.DecimalText.{decimal_text}
 use Rattle.json_doc.specs.Escapes.{quoted}
 use Rattle.json_doc.specs.Indented.{indented_at, indented_step, indented_field, lines, line}
-use Rattle.json_doc.specs.Joined.{joined}
+use Rattle.texts.specs.Joined.{joined}
 use Rattle.json_doc.specs.Layouts.{text_at, before_part, after_parts, parts_text, field_text}
 
 pub text_at-Null : (layout : Layout) (level : ℕ) → text_at layout level Null ≡ codes "null"

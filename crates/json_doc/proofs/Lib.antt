@@ -1,3 +1,4 @@
+pub mod Bounded
 pub mod CappedValues
 pub mod Complete
 pub mod DecimalOrder
@@ -8,8 +9,6 @@ pub mod DueParts
 pub mod Escapes
 pub mod EscapesAgain
 pub mod Gathering
-pub mod Keyed
-pub mod KeyedFronts
 pub mod Layouts
 pub mod LeastForms
 pub mod Literals
@@ -35,7 +34,6 @@ pub mod TextLeft
 pub mod TextLocal
 pub mod TextScans
 pub mod TextSteps
-pub mod Texts
 pub mod TextsWritten
 pub mod TokenParts
 pub mod Utf8Bytes

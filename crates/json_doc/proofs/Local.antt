@@ -3,7 +3,8 @@
 use Rattle.std.proofs.Common.{◌≡◌, ℕ, ◌+◌, ◌-◌, ◌≤◌, Bool, true, false, if◌then◌else◌, List, ◌∷◌, ◌++◌, length, Ok, Err, refl, sym, ap, subst, ◌∙◌, arith, length-append}
 use Rattle.json_doc.specs.declared.stop.Stop.{Stop}
 use Rattle.json_doc.specs.declared.stop.Stop.TheVariants.{Syntax, TooDeep, NumberTooWide, OutOfMemory}
-use Rattle.json_doc.specs.Reading.{Read, ◌>>=◌}
+use Rattle.json_doc.specs.Reading.{Read}
+use Rattle.texts.specs.Calls.{◌>>=◌}
 use Rattle.json_doc.proofs.Within.{left_of, Within}
 
 -- two ways to go on, whose first byte is the same

@@ -5,7 +5,8 @@ use Rattle.std.specs.Char.{is_ascii_digit}
 use Rattle.std.specs.List.{prefix_len}
 use Rattle.json_doc.specs.declared.decimal.Decimal.{Decimal}
 use Rattle.json_doc.specs.declared.stop.Stop.TheVariants.{Syntax}
-use Rattle.json_doc.specs.Reading.{Read, ◌>>=◌}
+use Rattle.json_doc.specs.Reading.{Read}
+use Rattle.texts.specs.Calls.{◌>>=◌}
 use Rattle.json_doc.specs.NumberToken.{Exponent, Number, digits_at, int_at, frac_at, sign_at, no_exponent, is_exp_mark, exp_at, number_at, ReadsNumber}
 use Rattle.json_doc.proofs.Within.{Within, either, wider, bind-within}
 

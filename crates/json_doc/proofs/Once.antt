@@ -5,10 +5,10 @@ use Rattle.std.proofs.lemmas.Bool.{eqb-true, eq-eqb, false≢true}
 use Rattle.json_doc.specs.declared.decimal.Decimal.{Decimal}
 use Rattle.json_doc.specs.declared.doc.Doc as doc
 use Rattle.json_doc.specs.declared.doc.Doc.{Doc}
-use Rattle.json_doc.specs.declared.pairs.Pair.{Pair}
+use Rattle.texts.specs.declared.pairs.Pair.{Pair}
 use Rattle.json_doc.specs.declared.stop.Stop.{Stop}
 use Rattle.json_doc.specs.declared.stop.Stop.TheVariants.{Syntax, TooDeep}
-use Rattle.json_doc.specs.Keys.{put}
+use Rattle.texts.specs.Keys.{put}
 use Rattle.json_doc.specs.Reading.{Read}
 use Rattle.json_doc.specs.Exact.{HasValue}
 use Rattle.json_doc.specs.NumberToken.{Number, number_at, value_of, ReadsNumber}

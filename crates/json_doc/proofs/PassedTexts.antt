@@ -6,7 +6,7 @@ use Rattle.std.proofs.lemmas.Result.{IfOk-at_ok}
 use Rattle.json_doc.specs.declared.brackets.Bracket.{Bracket}
 use Rattle.json_doc.specs.declared.brackets.Bracket.TheVariants.{Array, Object}
 use Rattle.json_doc.specs.declared.doc.Doc.{Doc}
-use Rattle.json_doc.specs.declared.pairs.Pair.{Pair}
+use Rattle.texts.specs.declared.pairs.Pair.{Pair}
 use Rattle.json_doc.specs.declared.stop.Stop.{Stop}
 use Rattle.json_doc.specs.declared.stop.Stop.TheVariants.{Syntax}
 use Rattle.json_doc.specs.Grammar.{Ws, Reads}

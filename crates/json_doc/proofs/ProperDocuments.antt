@@ -11,9 +11,10 @@ use Rattle.json_doc.specs.declared.doc.Doc.TheVariants.{Null, Flag, Number, Str,
 use Rattle.json_doc.specs.declared.doc.Doc.TheOpen.{Doc-F}
 use Rattle.json_doc.specs.declared.doc.Doc.TheFolds.{fold-roll-Doc, every_here-Doc, every_held-Doc, every_made-Doc}
 use Rattle.json_doc.specs.declared.decimal.Decimal.{Decimal}
-use Rattle.json_doc.specs.declared.pairs.Pair.{Pair}
-use Rattle.json_doc.specs.Documents.{greatest, depth_of, depth_step, IsText, IsProper, IsProperValue, IsProperField}
-use Rattle.json_doc.specs.Keys.{keys, IsDistinct}
+use Rattle.texts.specs.declared.pairs.Pair.{Pair}
+use Rattle.json_doc.specs.Documents.{greatest, depth_of, depth_step, IsProper, IsProperValue, IsProperField}
+use Rattle.texts.specs.Characters.{IsText}
+use Rattle.texts.specs.Keys.{keys, IsDistinct}
 
 out-Str : (t : List ℕ) → out-Doc (Str t) ≡ Doc-F.Str t
 out-Str t = search (rules, the_lemmas)
@@ -147,6 +148,15 @@ depth-Fields ps = ap depth_of (sym (rolls-Fields ps)) ∙ fold-roll-Doc ℕ dept
     values : (ps : List (Pair Doc)) → map (λ p. p.value) (map depth_at ps) ≡ map (λ p. depth_of p.value) ps
     values [] = refl
     values (p ∷ ps) = ap (λ ns. depth_of p.value ∷ ns) (values ps)
+
+-- a scalar nests nothing
+pub depth-scalars : (depth_of Null ≡ 0) × ((flag : Bool) → depth_of (Flag flag) ≡ 0) × ((n : Decimal) → depth_of (Number n) ≡ 0) × ((t : List ℕ) → depth_of (Str t) ≡ 0)
+depth-scalars = (
+  ap depth_of (sym rolls-Null) ∙ fold-roll-Doc ℕ depth_step Doc-F.Null,
+  λ flag. ap depth_of (sym (rolls-Flag flag)) ∙ fold-roll-Doc ℕ depth_step (Doc-F.Flag flag),
+  λ n. ap depth_of (sym (rolls-Number n)) ∙ fold-roll-Doc ℕ depth_step (Doc-F.Number n),
+  λ t. ap depth_of (sym (rolls-Str t)) ∙ fold-roll-Doc ℕ depth_step (Doc-F.Str t),
+)
 
 -- what holds anyway holds after Ok
 pub if_ok : {A E : Type 0} (r : Result A E) (P : Type 0) → P → IfOk r (λ _. P)

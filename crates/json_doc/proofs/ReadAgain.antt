@@ -11,12 +11,13 @@ use Rattle.json_doc.specs.declared.doc.Doc.TheFolds.{ind-Doc}
 use Rattle.json_doc.specs.declared.decimal.Decimal.{Decimal}
 use Rattle.json_doc.specs.declared.layout.Layout.{Layout}
 use Rattle.json_doc.specs.declared.layout.Layout.TheVariants.{Compact, Indented}
-use Rattle.json_doc.specs.declared.pairs.Pair.{Pair}
-use Rattle.json_doc.specs.Documents.{greatest, depth_of, IsText, IsProper}
+use Rattle.texts.specs.declared.pairs.Pair.{Pair}
+use Rattle.json_doc.specs.Documents.{greatest, depth_of, IsProper}
+use Rattle.texts.specs.Characters.{IsText}
 use Rattle.json_doc.specs.Escapes.{quoted}
 use Rattle.json_doc.specs.Grammar.{is_blank, Structural, String, put_all, Value, Values, Members, Member, Ws, Reads}
 use Rattle.json_doc.specs.Indented.{line}
-use Rattle.json_doc.specs.Keys.{keys, IsDistinct}
+use Rattle.texts.specs.Keys.{keys, IsDistinct}
 use Rattle.json_doc.specs.Layouts.{text_at, before_part, after_parts, parts_text, field_text}
 use Rattle.json_doc.proofs.Gathering.{IsNew-before, put_last}
 use Rattle.json_doc.proofs.Layouts.{text_at-Null, text_at-Flag, text_at-Number, text_at-Str, text_at-Items, text_at-Fields, rest_of_parts, parts_text-whole}

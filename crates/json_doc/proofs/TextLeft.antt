@@ -6,7 +6,8 @@ use Rattle.std.specs.Char.{digit_value}
 use Rattle.std.specs.Char.Utf16.{is_high_surrogate}
 use Rattle.std.specs.Str.Lossy.{second_byte_min, second_byte_max}
 use Rattle.json_doc.specs.declared.stop.Stop.TheVariants.{Syntax}
-use Rattle.json_doc.specs.Reading.{Read, ◌>>=◌, byte_in}
+use Rattle.json_doc.specs.Reading.{Read, byte_in}
+use Rattle.texts.specs.Calls.{◌>>=◌}
 use Rattle.json_doc.specs.TextToken.{tail_at, two_at, three_at, four_at, utf8_at, hex_in, low_half_at, unit_at, unicode_at, named_char, escape_at, char_at, text_within, text_at}
 use Rattle.json_doc.proofs.Within.{Within, either, wider, bind-within}
 

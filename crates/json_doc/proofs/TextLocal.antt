@@ -6,7 +6,8 @@ use Rattle.std.specs.Char.{digit_value}
 use Rattle.std.specs.Char.Utf16.{is_high_surrogate}
 use Rattle.std.specs.Str.Lossy.{second_byte_min, second_byte_max}
 use Rattle.json_doc.specs.declared.stop.Stop.TheVariants.{Syntax}
-use Rattle.json_doc.specs.Reading.{◌>>=◌, byte_in}
+use Rattle.json_doc.specs.Reading.{byte_in}
+use Rattle.texts.specs.Calls.{◌>>=◌}
 use Rattle.json_doc.specs.TextToken.{two_at, three_at, four_at, utf8_at, hex_in, low_half_at, unit_at, unicode_at, named_char, escape_at, char_at, text_within, text_at}
 use Rattle.json_doc.proofs.Within.{Within, either, bind-within}
 use Rattle.json_doc.proofs.TextLeft.{byte_in-within, hex_in-within, two_at-within, three_at-within, four_at-within, low_half_at-within, unicode_at-within, escape_at-within, text_within-within}

@@ -8,7 +8,8 @@ use Rattle.std.proofs.lemmas.List.{take-append-drop, take-take, length-take}
 use Rattle.std.proofs.lemmas.Str.{encode_ascii, chars-encodes}
 use Rattle.json_doc.specs.declared.stop.Stop.{Stop}
 use Rattle.json_doc.specs.declared.stop.Stop.TheVariants.{Syntax}
-use Rattle.json_doc.specs.Reading.{Read, ◌>>=◌}
+use Rattle.json_doc.specs.Reading.{Read}
+use Rattle.texts.specs.Calls.{◌>>=◌}
 use Rattle.json_doc.specs.TextToken.{utf8_at, char_at, text_within, text_at, with_front, ends_run}
 use Rattle.json_doc.proofs.TokenParts.{chosen}
 use Rattle.json_doc.proofs.Utf8Parts.{utf8_at_ok}

@@ -12,7 +12,7 @@ use Rattle.std.proofs.lemmas.Bool.Decides.{nat_tests}
 use Rattle.std.proofs.lemmas.Str.{digit_value-digit_char, encode_ascii, encodes-append}
 use Rattle.json_doc.specs.declared.layout.Layout.{Layout}
 use Rattle.json_doc.specs.declared.layout.Layout.TheVariants.{Compact, Indented}
-use Rattle.json_doc.specs.Documents.{IsText}
+use Rattle.texts.specs.Characters.{IsText}
 use Rattle.json_doc.specs.Escapes.{letter_of, unit_escape, is_bare, escaped, quoted}
 use Rattle.json_doc.specs.Grammar.{String}
 use Rattle.json_doc.specs.TextToken.{named_char, IsUnit, SpellsChar, unescaped, named, unit, pair, Spells}

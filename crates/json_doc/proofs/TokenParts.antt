@@ -5,7 +5,8 @@ use Rattle.std.specs.Int.{is_in_range, IsInRange}
 use Rattle.std.proofs.lemmas.Bool.{and_parts, and_from, and_left, and_right, leb-true, le-leb, lt-leb}
 use Rattle.json_doc.specs.declared.stop.Stop.{Stop}
 use Rattle.json_doc.specs.declared.stop.Stop.TheVariants.{Syntax, TooDeep, NumberTooWide, OutOfMemory}
-use Rattle.json_doc.specs.Reading.{◌>>=◌, Stops, byte_in}
+use Rattle.json_doc.specs.Reading.{Stops, byte_in}
+use Rattle.texts.specs.Calls.{◌>>=◌}
 use Rattle.json_doc.specs.TextToken.{hex_in}
 
 -- which way a choice went

@@ -11,11 +11,12 @@ use Rattle.std.specs.Prelude.{codes}
 use Rattle.json_doc.specs.declared.decimal.Decimal.{Decimal}
 use Rattle.json_doc.specs.declared.doc.Doc as doc
 use Rattle.json_doc.specs.declared.doc.Doc.{Doc}
-use Rattle.json_doc.specs.declared.pairs.Pair.{Pair}
+use Rattle.texts.specs.declared.pairs.Pair.{Pair}
 use Rattle.json_doc.specs.declared.stop.Stop.{Stop}
 use Rattle.json_doc.specs.declared.stop.Stop.TheVariants.{Syntax, TooDeep}
-use Rattle.json_doc.specs.Keys.{put}
-use Rattle.json_doc.specs.Reading.{Read, ◌>>=◌}
+use Rattle.texts.specs.Keys.{put}
+use Rattle.json_doc.specs.Reading.{Read}
+use Rattle.texts.specs.Calls.{◌>>=◌}
 use Rattle.json_doc.specs.NumberToken.{number_at, ReadsNumber}
 use Rattle.json_doc.proofs.NumberLocal.{number_at-local}
 use Rattle.json_doc.specs.TextToken.{text_at}

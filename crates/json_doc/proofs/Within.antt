@@ -2,7 +2,8 @@
 use Rattle.std.proofs.Common.{ℕ, ◌≤◌, Bool, true, false, if◌then◌else◌, List, length, Result, Ok, Err, arith}
 use Rattle.json_doc.specs.declared.stop.Stop.{Stop}
 use Rattle.json_doc.specs.declared.stop.Stop.TheVariants.{Syntax, TooDeep, NumberTooWide, OutOfMemory}
-use Rattle.json_doc.specs.Reading.{Read, ◌>>=◌}
+use Rattle.json_doc.specs.Reading.{Read}
+use Rattle.texts.specs.Calls.{◌>>=◌}
 
 -- how many bytes are left at a fault
 abbrev pub left_of : Stop → ℕ

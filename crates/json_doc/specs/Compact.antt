@@ -4,10 +4,10 @@ use Rattle.json_doc.specs.declared.doc.Doc.{Doc}
 use Rattle.json_doc.specs.declared.doc.Doc.TheOpen.{Doc-F}
 use Rattle.json_doc.specs.declared.doc.Doc.TheFolds.{fold-Doc}
 use Rattle.json_doc.specs.declared.layout.Layout.TheVariants.{Compact}
-use Rattle.json_doc.specs.declared.pairs.Pair.{Pair}
+use Rattle.texts.specs.declared.pairs.Pair.{Pair}
 use Rattle.json_doc.specs.DecimalText.{decimal_text}
 use Rattle.json_doc.specs.Escapes.{quoted}
-use Rattle.json_doc.specs.Joined.{joined}
+use Rattle.texts.specs.Joined.{joined}
 
 abbrev pub flag_text : Bool → List ℕ
 flag_text flag = if flag then codes "true" else codes "false"

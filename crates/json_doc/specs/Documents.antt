@@ -1,13 +1,13 @@
 -- Documents as trees: how deep they nest (RFC 8259, section 9: a reader may limit it), and what their
 -- types keep of each value in them.
 use Rattle.std.specs.Prelude.{ℕ, ◌+◌, max, List, [], ◌∷◌, map}
-use Rattle.std.specs.Char.{IsScalar}
 use Rattle.std.specs.List.{AllByRecursion}
 use Rattle.json_doc.specs.declared.doc.Doc.{Doc}
 use Rattle.json_doc.specs.declared.doc.Doc.TheOpen.{Doc-F}
 use Rattle.json_doc.specs.declared.doc.Doc.TheFolds.{fold-Doc, every-Doc}
-use Rattle.json_doc.specs.declared.pairs.Pair.{Pair}
-use Rattle.json_doc.specs.Keys.{keys, IsDistinct}
+use Rattle.texts.specs.declared.pairs.Pair.{Pair}
+use Rattle.texts.specs.Characters.{IsText}
+use Rattle.texts.specs.Keys.{keys, IsDistinct}
 
 -- the greatest of these; of none, 0
 abbrev pub greatest : List ℕ → ℕ
@@ -23,10 +23,6 @@ depth_step others = 0
 -- how many arrays and objects stand in one another
 abbrev pub depth_of : Doc → ℕ
 depth_of = fold-Doc ℕ depth_step
-
--- made of Unicode's characters, of which the halves of surrogate pairs are none (section 8.2)
-abbrev pub IsText : List ℕ → Type 0
-IsText cs = AllByRecursion IsScalar cs
 
 -- what a value is by its type: its text or its keys are texts, and no key stands twice (section 4)
 abbrev pub IsProperValue : Doc-F Doc → Type 0

@@ -1,7 +1,7 @@
 -- The fields of an object that is being read, as pairs.
 use Rattle.std.specs.Prelude.{ℕ, List, map}
 use Rattle.json_doc.specs.declared.doc.Doc.{Doc}
-use Rattle.json_doc.specs.declared.pairs.Pair.{Pair}
+use Rattle.texts.specs.declared.pairs.Pair.{Pair}
 use Rattle.json_doc.specs.declared.read_fields.Gathered.{Gathered}
 use Rattle.json_doc.specs.declared.read_fields.Gathered.TheVariants.{Few, Many}
 

@@ -4,11 +4,11 @@ use Rattle.json_doc.specs.declared.doc.Doc.{Doc}
 use Rattle.json_doc.specs.declared.doc.Doc.TheOpen.{Doc-F}
 use Rattle.json_doc.specs.declared.doc.Doc.TheFolds.{fold-Doc}
 use Rattle.json_doc.specs.declared.layout.Layout.TheVariants.{Indented}
-use Rattle.json_doc.specs.declared.pairs.Pair.{Pair}
+use Rattle.texts.specs.declared.pairs.Pair.{Pair}
 use Rattle.json_doc.specs.Compact.{flag_text}
 use Rattle.json_doc.specs.DecimalText.{decimal_text}
 use Rattle.json_doc.specs.Escapes.{quoted}
-use Rattle.json_doc.specs.Joined.{joined}
+use Rattle.texts.specs.Joined.{joined}
 
 -- a new line with the blanks of this level
 abbrev pub line : ℕ → List ℕ

@@ -3,10 +3,10 @@ use Rattle.std.specs.Prelude.{ℕ, Bool, true, false, List, [], ◌∷◌, ◌++
 use Rattle.json_doc.specs.declared.doc.Doc.{Doc}
 use Rattle.json_doc.specs.declared.layout.Layout.{Layout}
 use Rattle.json_doc.specs.declared.layout.Layout.TheVariants.{Compact, Indented}
-use Rattle.json_doc.specs.declared.pairs.Pair.{Pair}
+use Rattle.texts.specs.declared.pairs.Pair.{Pair}
 use Rattle.json_doc.specs.Compact.{compact_of}
 use Rattle.json_doc.specs.Escapes.{quoted}
-use Rattle.json_doc.specs.Joined.{joined}
+use Rattle.texts.specs.Joined.{joined}
 use Rattle.json_doc.specs.Indented.{indented_at, line, lines}
 
 -- a document's text at a level

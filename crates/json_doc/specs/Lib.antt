@@ -1,4 +1,3 @@
-pub mod Ascii
 pub mod Compact
 pub mod DecimalText
 pub mod DecimalValue
@@ -10,9 +9,7 @@ pub mod Faults
 pub mod Gathered
 pub mod Grammar
 pub mod Indented
-pub mod Joined
 pub mod JsonTexts
-pub mod Keys
 pub mod Layouts
 pub mod Least
 pub mod NumberParts
@@ -23,4 +20,8 @@ pub mod Scan
 pub mod StillDue
 pub mod TextToken
 pub mod Trimmed
-pub mod formers
+pub use Rattle.texts.specs.Ascii
+pub use Rattle.texts.specs.Calls
+pub use Rattle.texts.specs.Characters
+pub use Rattle.texts.specs.Joined
+pub use Rattle.texts.specs.Keys

@@ -7,7 +7,8 @@ use Rattle.json_doc.specs.declared.decimal.Decimal.{Decimal}
 use Rattle.json_doc.specs.declared.stop.Stop.{Stop}
 use Rattle.json_doc.specs.declared.stop.Stop.TheVariants.{Syntax, NumberTooWide}
 use Rattle.json_doc.specs.Exact.{Exact, exact, HasValue, HasNoDecimal}
-use Rattle.json_doc.specs.Reading.{Read, ◌>>=◌}
+use Rattle.json_doc.specs.Reading.{Read}
+use Rattle.texts.specs.Calls.{◌>>=◌}
 
 -- The parts of a number, each its digits alone. What isn't there has none.
 

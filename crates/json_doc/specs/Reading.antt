@@ -1,6 +1,6 @@
 -- Reading from the left: a part gives its value and the bytes behind it, or the fault, with how many
 -- bytes are left at its place.
-use Rattle.std.specs.Prelude.{◌≡◌, ℕ, if◌then◌else◌, List, [], ◌∷◌, length, Result, Ok, Err}
+use Rattle.std.specs.Prelude.{ℕ, if◌then◌else◌, List, [], ◌∷◌, length, Result, Ok, Err}
 use Rattle.std.specs.Int.{is_in_range}
 use Rattle.json_doc.specs.declared.stop.Stop.{Stop}
 use Rattle.json_doc.specs.declared.stop.Stop.TheVariants.{Syntax, TooDeep, NumberTooWide, OutOfMemory}
@@ -8,12 +8,6 @@ use Rattle.json_doc.specs.declared.stop.Stop.TheVariants.{Syntax, TooDeep, Numbe
 -- what reading a part gives
 abbrev pub Read : Type 0 → Type 0
 Read A = Result (A × List ℕ) Stop
-
--- goes on behind what was read
-infixl 10 ◌>>=◌
-abbrev pub ◌>>=◌ : {A B : Type 0} → Result A Stop → (A → Result B Stop) → Result B Stop
-(Ok x) >>= f = f x
-(Err stop) >>= f = Err stop
 
 -- this fact of a fault; want of memory is left open
 abbrev pub Stops : (Stop → Type 0) → Stop → Type 0
@@ -26,8 +20,3 @@ Stops P (NumberTooWide left) = P (NumberTooWide left)
 unfoldable pub byte_in : ℕ → ℕ → List ℕ → Read ℕ
 byte_in low high [] = Err (Syntax 0)
 byte_in low high (b ∷ bs) = if is_in_range low high b then Ok (b, bs) else Err (Syntax (length (b ∷ bs)))
-
--- A call that takes no memory and answers this, seen by a view, gives what reading gives.
-abbrev pub Gives : {X A : Type 0} → (X → A) → Result X Stop → Result A Stop → Type 0
-Gives view (Ok x) read = read ≡ Ok (view x)
-Gives view (Err stop) read = read ≡ Err stop

@@ -5,12 +5,13 @@ use Rattle.std.specs.Char.{is_ascii_digit}
 use Rattle.json_doc.specs.declared.decimal.Decimal.{Decimal}
 use Rattle.json_doc.specs.declared.doc.Doc as doc
 use Rattle.json_doc.specs.declared.doc.Doc.{Doc}
-use Rattle.json_doc.specs.declared.pairs.Pair.{Pair}
+use Rattle.texts.specs.declared.pairs.Pair.{Pair}
 use Rattle.json_doc.specs.declared.stop.Stop.{Stop}
 use Rattle.json_doc.specs.declared.stop.Stop.TheVariants.{Syntax, TooDeep}
 use Rattle.json_doc.specs.Grammar.{is_blank}
-use Rattle.json_doc.specs.Keys.{put}
-use Rattle.json_doc.specs.Reading.{Read, ◌>>=◌}
+use Rattle.texts.specs.Keys.{put}
+use Rattle.json_doc.specs.Reading.{Read}
+use Rattle.texts.specs.Calls.{◌>>=◌}
 use Rattle.json_doc.specs.NumberToken.{ReadsNumber}
 use Rattle.json_doc.specs.TextToken.{text_at}
 

@@ -7,7 +7,8 @@ use Rattle.std.specs.Char.Utf16.{is_high_surrogate, is_low_surrogate, surrogate_
 use Rattle.std.specs.Str.Lossy.{second_byte_min, second_byte_max}
 use Rattle.std.specs.Str.Parse.{digits_value, AllDigits}
 use Rattle.json_doc.specs.declared.stop.Stop.TheVariants.{Syntax}
-use Rattle.json_doc.specs.Reading.{Read, ◌>>=◌, byte_in}
+use Rattle.json_doc.specs.Reading.{Read, byte_in}
+use Rattle.texts.specs.Calls.{◌>>=◌}
 
 -- What spells what.
 

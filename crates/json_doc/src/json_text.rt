@@ -117,6 +117,3 @@ fn go_on(alloc: Global, bracket: Bracket, bytes: &[u8]) -> Result<(Option<Bracke
         }
     }
 }
-
-#[cfg(test)]
-mod tests;

@@ -1,9 +1,7 @@
-//! JSON documents: the tree, its texts, and the small types over vectors and texts that contracts
-//! see as lists.
+//! JSON documents: the tree and its texts. What they are made of, texts, lists and pairs, comes along.
 #![tactic(auto)]
 
 mod brackets;
-mod bytes;
 mod copied;
 mod decimal;
 mod decimal_parts;
@@ -14,10 +12,7 @@ mod doc;
 mod document_text;
 mod json_text;
 mod layout;
-mod list;
-mod memory;
 mod number_token;
-mod pairs;
 mod powers;
 mod printer;
 mod quoted;
@@ -29,22 +24,18 @@ mod read_value;
 mod reader;
 mod significand;
 mod stop;
-mod text;
 mod text_token;
 
-pub use bytes::Bytes;
 pub use copied::copy;
 pub use decimal::Decimal;
 pub use doc::Doc;
 pub use document_text::{compact, indented};
 pub use json_text::is_json_text;
-pub use list::List;
-pub use memory::OutOfMemory;
-pub use pairs::{Pair, Pairs};
 pub use read_fault::ReadFault;
 pub use read_laws::{
     documents_are_json_texts, reading_is_grammar, reading_is_unique, texts_read_back,
+    what_is_read_prints,
 };
 pub use read_marks::skip_blanks;
 pub use reader::read;
-pub use text::Text;
+pub use texts::{Bytes, List, OutOfMemory, Pair, Pairs, Text};

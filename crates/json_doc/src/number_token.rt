@@ -3,7 +3,7 @@ ghost use Rattle.std.specs.Prelude.{◌≡◌, ◌+◌, ◌*◌, ◌^◌, ◌<�
 ghost use Rattle.std.specs.Char.{is_ascii_digit};
 ghost use Rattle.std.specs.List.{prefix_len};
 ghost use Rattle.std.specs.Str.Parse.{digits_value, AllDigits};
-ghost use Rattle.json_doc.specs.Reading.{Gives};
+ghost use Rattle.texts.specs.Calls.{Gives};
 ghost use Rattle.json_doc.specs.NumberToken.{digits_at, int_at, frac_at, sign_at, exp_at, minus_at, number_at, value_of, raised, lowered, HasDigits, Number, BeginsWithNumber, ReadsNumber};
 ghost use Rattle.json_doc.specs.declared.stop.Stop.TheVariants.{NumberTooWide as TooWide};
 ghost use Rattle.json_doc.specs.Exact.{HasValue, HasNoDecimal};

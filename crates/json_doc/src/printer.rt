@@ -1,7 +1,8 @@
 ghost use Rattle.std.specs.Prelude.{◌≡◌, ◌+◌, ◌++◌, map, OnOk, IfOk};
 ghost use Rattle.std.specs.List.{AllByRecursion};
 ghost use Rattle.json_doc.specs.Compact.{flag_text};
-ghost use Rattle.json_doc.specs.Documents.{IsText, IsProper, IsProperField};
+ghost use Rattle.json_doc.specs.Documents.{IsProper, IsProperField};
+ghost use Rattle.texts.specs.Characters.{IsText};
 ghost use Rattle.json_doc.specs.Indented.{line};
 ghost use Rattle.json_doc.specs.Layouts.{text_at, before_part, after_parts, parts_text, key_text, field_text};
 

@@ -1,5 +1,5 @@
 ghost use Rattle.std.specs.Prelude.{◌≡◌, [], IfOk, OnOk};
-ghost use Rattle.json_doc.specs.Keys.{keys, IsDistinct, put};
+ghost use Rattle.texts.specs.Keys.{keys, IsDistinct, put};
 ghost use Rattle.json_doc.specs.Gathered.{pairs_of, kept};
 
 use crate::{Doc, OutOfMemory, Pair, Pairs, Text};

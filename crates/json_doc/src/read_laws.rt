@@ -31,6 +31,15 @@ pub fn texts_read_back()
     ensures blanks_behind { (d : Doc) (blanks : List ℕ) → IsProper d → depth_of d ≤ 100 → Ws blanks [] → Reads (encode_utf8_all (indented_of d ++ blanks)) d }
 {}
 
+/// What is read nests at most 100 deep and is what its types keep, so both of its texts are read as
+/// that document again.
+pub fn what_is_read_prints()
+    ensures depth { (bytes : List ℕ) (d : Doc) → Reads bytes d → depth_of d ≤ 100 }
+    ensures proper { (bytes : List ℕ) (d : Doc) → Reads bytes d → IsProper d }
+    ensures compact { (bytes : List ℕ) (d : Doc) → Reads bytes d → Reads (encode_utf8_all (compact_of d)) d }
+    ensures indented { (bytes : List ℕ) (d : Doc) → Reads bytes d → Reads (encode_utf8_all (indented_of d)) d }
+{}
+
 /// A document is a JSON text; the limits on depth and on numbers only take away.
 pub fn documents_are_json_texts()
     ensures { (bytes : List ℕ) (d : Doc) → Reads bytes d → IsJsonText bytes }

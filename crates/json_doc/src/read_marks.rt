@@ -1,6 +1,7 @@
 ghost use Rattle.std.specs.Prelude.{◌≡◌, ◌≤◌, ◌<◌, length, codes, IsTrue, IfOk, IfErr, Ok, Err};
 ghost use Rattle.std.specs.Option.{option_copied};
-ghost use Rattle.json_doc.specs.Reading.{Gives, Stops};
+ghost use Rattle.json_doc.specs.Reading.{Stops};
+ghost use Rattle.texts.specs.Calls.{Gives};
 ghost use Rattle.json_doc.specs.Grammar.{is_blank};
 ghost use Rattle.json_doc.specs.Scan.{begins_number, skipped, behind, past, past_word, key_at};
 

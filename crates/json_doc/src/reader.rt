@@ -2,6 +2,7 @@ ghost use Rattle.std.specs.Prelude.{◌≡◌, ◌≤◌, ◌+◌, ◌⊎◌, le
 ghost use Rattle.json_doc.specs.declared.doc.Doc.{Doc};
 ghost use Rattle.json_doc.specs.declared.read_fault.ReadFault.{ReadFault};
 ghost use Rattle.json_doc.specs.declared.read_fault.ReadFault.TheVariants.{OutOfMemory as NoMemory};
+ghost use Rattle.json_doc.specs.Documents.{depth_of, IsProper};
 ghost use Rattle.json_doc.specs.Faults.{HasFault, IsDeadEnd};
 ghost use Rattle.json_doc.specs.Reading.{Stops};
 ghost use Rattle.json_doc.specs.Grammar.{Reads};
@@ -19,6 +20,8 @@ use std::alloc::Global;
 pub fn read(alloc: Global, bytes: &[u8]) -> Result<Doc, ReadFault>
     // What is read is the document of the bytes; where they are one, it is read.
     ensures found { IfOk result (λ d. Reads bytes.now d) }
+    ensures depth { IfOk result (λ d. depth_of d ≤ 100) }
+    ensures proper { IfOk result IsProper }
     ensures only { (d : Doc) → Reads bytes.now d → MatchResult result (λ e. e ≡ d) (λ e. e ≡ NoMemory) }
 
     // A fault is the first of the bytes; where they have one, it is answered.
@@ -55,6 +58,3 @@ fn read_whole(alloc: Global, bytes: &[u8]) -> Result<Doc, Stop>
         Err(Stop::Syntax(rest.len()))
     }
 }
-
-#[cfg(test)]
-mod tests;

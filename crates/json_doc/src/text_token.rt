@@ -21,7 +21,8 @@ ghost use Rattle.std.specs.Prelude.{
 ghost use Rattle.std.specs.Int.{IsInRange};
 ghost use Rattle.std.specs.Str.{chars, IsUtf8};
 ghost use Rattle.std.specs.Str.Lossy.{second_byte_min, second_byte_max};
-ghost use Rattle.json_doc.specs.Reading.{byte_in, Gives, Stops};
+ghost use Rattle.json_doc.specs.Reading.{byte_in, Stops};
+ghost use Rattle.texts.specs.Calls.{Gives};
 ghost use Rattle.json_doc.specs.TextToken.{
   ends_run,
   with_front,

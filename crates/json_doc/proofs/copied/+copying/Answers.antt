@@ -1,5 +1,5 @@
-use Rattle.json_doc.specs.Keys.{keys, IsDistinct}
-use Rattle.json_doc.proofs.KeyedFronts.{IsNew-before}
+use Rattle.texts.specs.Keys.{keys, IsDistinct}
+use Rattle.texts.proofs.KeyedFronts.{IsNew-before}
 use Rattle.json_doc.proofs.copied.+copying.Goals as goal
 
 pub copy_fields-push_new-requires : goal.copy_fields-push_new-requires

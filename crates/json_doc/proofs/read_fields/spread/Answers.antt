@@ -1,6 +1,6 @@
 use Rattle.std.proofs.Common.{◌≡◌, ◌++◌, ◌∷◌, [], sym, ap, subst, ◌∙◌, append_assoc}
 use Rattle.std.specs.Vec.Iter.{into_iter_items}
-use Rattle.json_doc.specs.Keys.{keys, IsDistinct}
+use Rattle.texts.specs.Keys.{keys, IsDistinct}
 use Rattle.json_doc.specs.Gathered.{pairs_of}
 use Rattle.json_doc.proofs.Gathering.{put_last, IsNew-before}
 use Rattle.json_doc.proofs.read_fields.spread.Goals as goal

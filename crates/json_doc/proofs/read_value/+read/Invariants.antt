@@ -1,6 +1,6 @@
 use Rattle.std.proofs.Common.{◌+◌, ◌-◌, ◌*◌, List, [], length}
 use Rattle.json_doc.specs.declared.doc.Doc.{Doc}
-use Rattle.json_doc.specs.declared.pairs.Pair.{Pair}
+use Rattle.texts.specs.declared.pairs.Pair.{Pair}
 use Rattle.json_doc.specs.Gathered.{kept}
 use Rattle.json_doc.specs.Reading.{Read}
 use Rattle.json_doc.specs.Scan.{Elements, Members}

@@ -1,5 +1,6 @@
 use Rattle.std.proofs.Common.{inl}
 use Rattle.json_doc.specs.declared.read_fault.ReadFault.TheVariants as fault
+use Rattle.json_doc.proofs.Bounded.{read-depth, read-IsProper}
 use Rattle.json_doc.proofs.Complete.{text_complete}
 use Rattle.json_doc.proofs.Once.{text_once}
 use Rattle.json_doc.proofs.Refusals.{no_fault, one_fault}
@@ -10,6 +11,12 @@ use Rattle.json_doc.proofs.reader.read.Goals as goal
 
 pub returns-in-Ok-clause-found : goal.returns-in-Ok-clause-found
 returns-in-Ok-clause-found c = text_sound c.args.bytes.now c.in-Ok.doc c.in-Ok.ensures.read
+
+pub returns-in-Ok-clause-depth : goal.returns-in-Ok-clause-depth
+returns-in-Ok-clause-depth c = read-depth c.args.bytes.now c.in-Ok.doc (text_sound c.args.bytes.now c.in-Ok.doc c.in-Ok.ensures.read)
+
+pub returns-in-Ok-clause-proper : goal.returns-in-Ok-clause-proper
+returns-in-Ok-clause-proper c = read-IsProper c.args.bytes.now c.in-Ok.doc (text_sound c.args.bytes.now c.in-Ok.doc c.in-Ok.ensures.read)
 
 pub returns-in-Ok-clause-only : goal.returns-in-Ok-clause-only
 returns-in-Ok-clause-only c = λ d reads.

@@ -1,7 +1,0 @@
-use Rattle.std.proofs.Common.{◌++◌, ap, ◌∙◌}
-use Rattle.json_doc.proofs.Texts.{chars_ascii}
-use Rattle.json_doc.proofs.text.Text.push_ascii.Goals as goal
-
-pub returns-clause-ok : goal.returns-clause-ok
-returns-clause-ok c =
-    c.in_ok-push_str.ensures.ok ∙ ap (λ cs. c.args.self.now ++ cs) (chars_ascii c.args.more.now c.requires)

@@ -1,0 +1,5 @@
+pub mod Ascending
+pub mod ByteOrder
+pub mod Keyed
+pub mod KeyedFronts
+pub mod Texts

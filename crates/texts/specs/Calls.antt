@@ -1,0 +1,23 @@
+-- What calls give, beside what is due. A view shows the value of the code as that of the definitions.
+use Rattle.std.specs.Prelude.{◌≡◌, ◌⊎◌, Option, None, Some, Result, Ok, Err}
+
+-- goes on with the value; a refusal stays
+infixl 10 ◌>>=◌
+abbrev pub ◌>>=◌ : {A B E : Type 0} → Result A E → (A → Result B E) → Result B E
+(Ok x) >>= f = f x
+(Err e) >>= f = Err e
+
+-- what is due comes: the value, or the refusal
+abbrev pub Gives : {X A E : Type 0} → (X → A) → Result X E → Result A E → Type 0
+Gives view (Ok x) due = due ≡ Ok (view x)
+Gives view (Err e) due = due ≡ Err e
+
+-- what is due comes, or the refusal that tells want of memory
+abbrev pub Answers : {X A E : Type 0} → E → (X → A) → Result X E → Result A E → Type 0
+Answers no_memory view (Ok x) due = due ≡ Ok (view x)
+Answers no_memory view (Err e) due = (e ≡ no_memory) ⊎ (due ≡ Err e)
+
+-- what is there is found, or nothing where nothing is
+abbrev pub Finds : {X A : Type 0} → (X → A) → Option X → Option A → Type 0
+Finds view (Some x) due = due ≡ Some (view x)
+Finds view None due = due ≡ None

@@ -1,0 +1,7 @@
+pub mod Ascii
+pub mod Calls
+pub mod Characters
+pub mod Joined
+pub mod Keys
+pub mod Order
+pub mod formers

@@ -1,0 +1,17 @@
+//! Texts, bytes, lists and pairs with distinct keys: the small types over vectors that contracts see
+//! as lists, and the words in which contracts speak of them.
+#![tactic(auto)]
+
+mod bytes;
+mod list;
+mod memory;
+mod order;
+mod pairs;
+mod text;
+
+pub use bytes::Bytes;
+pub use list::List;
+pub use memory::OutOfMemory;
+pub use order::{compare, order_is_that_of_bytes, put_in_order};
+pub use pairs::{Pair, Pairs};
+pub use text::Text;
