@@ -2,6 +2,5 @@ pub mod Causes
 pub mod Folders
 pub mod Last
 pub mod Moments
-pub mod Names
 pub mod Pieces
 pub mod Told

@@ -1,8 +1,6 @@
 -- Files as pairs of a path and bytes, and the folders that their paths make.
-use Rattle.std.specs.Prelude.{◌≡◌, ◌≢◌, ℕ, ◌<◌, ◌↔◌, if◌then◌else◌, Option, None, Some, List, [], ◌∷◌, ◌++◌, length, Contains, AllPairs, All, Any, bytes_eq, encode_utf8_all}
-use Rattle.std.specs.Ordering.{nat_cmp}
-use Rattle.std.specs.declared.cmp.Ordering.TheVariants.{Less}
-use Rattle.std.specs.Cmp.Lexicographic.{slice_cmp}
+use Rattle.std.specs.Prelude.{◌≡◌, ◌≢◌, ℕ, ◌<◌, ◌↔◌, if◌then◌else◌, Option, None, Some, List, [], ◌∷◌, ◌++◌, length, Contains, AllPairs, All, Any, bytes_eq}
+use Rattle.texts.specs.Order.{IsBefore}
 
 -- the bytes at the first pair of a path
 abbrev pub file_at : List ℕ → List (List ℕ × List ℕ) → Option (List ℕ)
@@ -44,11 +42,7 @@ pub record IsChild (folder : List ℕ) (files : List (List ℕ × List ℕ)) (na
   pub one_part : ¬ Contains name 47
   pub leads : Any (λ file. IsThrough folder name file.0) files
 
--- the first text comes before the second in the order of their bytes
-abbrev pub IsBefore : List ℕ → List ℕ → Type 0
-IsBefore a b = slice_cmp nat_cmp (encode_utf8_all a) (encode_utf8_all b) ≡ Less
-
--- the names directly below the folder, each once, in the order of their bytes
+-- the names directly below the folder, each once, in the order of texts
 pub record IsListing (folder : List ℕ) (files : List (List ℕ × List ℕ)) (names : List (List ℕ)) : Type 0 where
   pub ascending : AllPairs IsBefore names
   pub exact : (name : List ℕ) → Contains names name ↔ IsChild folder files name

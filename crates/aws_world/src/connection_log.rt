@@ -5,8 +5,8 @@ ghost use Rattle.aws_world.specs.Connection.{fresh, on_last, more_sent, more_rec
 ghost use Rattle.aws_world.specs.ConnectionLog.{seen, with_fault, told_of};
 
 use crate::LinkFault;
-use json_doc::{Bytes, OutOfMemory, Text};
 use std::alloc::Global;
+use texts::{Bytes, OutOfMemory, Text};
 
 /// A connection as it was kept.
 #[derive(Debug, Drop)]

@@ -3,7 +3,7 @@ ghost use Rattle.std.specs.Option.{option_copied};
 ghost use Rattle.std.specs.Str.{chars};
 ghost use Rattle.aws_world.specs.Env.{value_of, unless_empty};
 
-use json_doc::{List, Text};
+use texts::{List, Text};
 
 /// The variables of the environment, as pairs of a name and a value.
 #[derive(Debug, Drop)]

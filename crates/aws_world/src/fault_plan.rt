@@ -1,7 +1,8 @@
-ghost use Rattle.std.specs.Prelude.{◌≡◌, ◌+◌, ◌-◌, ◌^◌, ◌≤◌, ◌↔◌, IsTrue, [], min};
+ghost use Rattle.std.specs.Prelude.{◌≡◌, ◌≤◌, ◌↔◌, IsTrue, []};
+ghost use Rattle.aws_world.specs.Told.{one_more};
 ghost use Rattle.aws_world.specs.FaultPlan.{next_call, FailsNext, begin};
 
-use json_doc::List;
+use texts::List;
 
 /// The numbers, from 1, of the calls that are to fail, and the calls and faults so far.
 #[derive(Debug, Drop)]
@@ -33,7 +34,7 @@ impl FaultPlan {
 
     pub fn count_fault(&mut self)
         ensures later { self.old.faults ≤ self.new.faults }
-        ensures counted { self.new ≡ record self.old { faults = min (self.old.faults + 1) (2 ^ 64 - 1) } }
+        ensures counted { self.new ≡ record self.old { faults = one_more self.old.faults } }
     {
         self.faults = self.faults.saturating_add(1);
     }

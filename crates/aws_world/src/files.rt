@@ -2,8 +2,8 @@ ghost use Rattle.std.specs.Prelude.{◌≡◌, ℕ, ◌≤◌, Option, None, Som
 ghost use Rattle.aws_world.specs.Told.{Rose};
 ghost use Rattle.aws_world.specs.FileTree.{file_at, HasBelow, IsListing, IsLonger};
 
-use json_doc::{Bytes, List, OutOfMemory, Text};
 use std::alloc::Global;
+use texts::{Bytes, List, OutOfMemory, Text};
 
 /// Why a file or a folder could not be read.
 #[derive(Clone, Copy, Debug, PartialEq, Eq)]

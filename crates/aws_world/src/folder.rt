@@ -1,12 +1,12 @@
 //! The names directly below a folder, from the paths of files.
 
-ghost use Rattle.std.specs.Prelude.{◌≡◌, ℕ, ◌++◌, ◌∷◌, ◌↔◌, ◌⊎◌, ◌≢◌, ◌≤◌, IfOk, IfNone, IfSome, OnOk, OnSome, AllPairs, All, Contains, length, take, drop, []};
+ghost use Rattle.std.specs.Prelude.{◌≡◌, ℕ, ◌++◌, ◌∷◌, ◌↔◌, ◌⊎◌, ◌≢◌, IfOk, IfNone, IfSome, OnOk, OnSome, AllPairs, Contains, []};
 ghost use Rattle.std.specs.Str.{chars};
-ghost use Rattle.aws_world.specs.FileTree.{HasBelow, IsBelow, IsBefore, IsFirstPart, IsListing};
+ghost use Rattle.aws_world.specs.FileTree.{HasBelow, IsBelow, IsFirstPart, IsListing};
+ghost use Rattle.texts.specs.Order.{IsBefore};
 
-use json_doc::{Bytes, List, OutOfMemory, Text};
 use std::alloc::Global;
-use std::cmp::Ordering;
+use texts::{Bytes, List, OutOfMemory, Text, put_in_order};
 
 /// The names directly below a folder, in the order of their bytes; None where no path lies below.
 pub fn names_below(
@@ -69,27 +69,5 @@ fn add_name(names: &mut Vec<Text>, name: Text) -> Result<(), OutOfMemory>
     if name.is_empty() {
         return Ok(());
     }
-    let Some(at) = place_of(names.as_slice(), &name) else {
-        return Ok(());
-    };
-    names.insert(at, name)?;
-    Ok(())
-}
-
-/// Where a name belongs in the order of bytes; None where it is there.
-fn place_of(names: &[Text], name: &Text) -> Option<usize>
-    requires { AllPairs IsBefore names.now }
-    ensures there { IfNone result (Contains names.now name.now) }
-    ensures within { IfSome result (λ at. at ≤ length names.now) }
-    ensures above { IfSome result (λ at. All (λ other. IsBefore other name.now) (take at names.now)) }
-    ensures below { IfSome result (λ at. All (IsBefore name.now) (drop at names.now)) }
-{
-    for (at, other) in names.iter().enumerate() {
-        match other.as_str().cmp(name.as_str()) {
-            Ordering::Less => {}
-            Ordering::Equal => return None,
-            Ordering::Greater => return Some(at),
-        }
-    }
-    Some(names.len())
+    put_in_order(names, name)
 }

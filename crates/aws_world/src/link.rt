@@ -2,7 +2,7 @@ ghost use Rattle.std.specs.Prelude.{◌≡◌, ℕ, ◌<◌, ◌≤◌, Bool, tr
 ghost use Rattle.aws_world.specs.Told.{Tells, HasCause};
 ghost use Rattle.aws_world.specs.Connection.{Connection, fresh, refused, on_last, more_sent, more_received, peer_ended, faulted};
 
-use json_doc::Text;
+use texts::Text;
 
 /// Why a connection could not be made or used.
 #[derive(Clone, Copy, Debug, PartialEq, Eq)]

@@ -1,12 +1,12 @@
-ghost use Rattle.std.specs.Prelude.{◌≡◌, ◌↔◌, ◌⊎◌, Some, [], ◌∷◌, ◌++◌, IfOk, OnErr, IsErr};
-ghost use Rattle.aws_world.specs.Told.{HasCause};
+ghost use Rattle.std.specs.Prelude.{◌≡◌, ◌↔◌, ◌⊎◌, Some, [], ◌∷◌, ◌++◌, IfOk, OnOk, OnErr, IsErr};
+ghost use Rattle.aws_world.specs.Told.{HasCause, one_more};
 ghost use Rattle.aws_world.specs.FaultPlan.{FailsNext, AddsCall, begin};
 ghost use Rattle.aws_world.specs.ListDice.{words_given, words_left, plan_of};
 
 use crate::fault_plan::FaultPlan;
 use crate::{Dice, DiceFault};
-use json_doc::List;
 use std::alloc::Global;
+use texts::List;
 
 /// A list of words that stands for random ones. It tells the words given at all times, since they
 /// are the front of that list.
@@ -67,6 +67,8 @@ impl Dice for ListDice {
         ensures left { OnErr result (words_left self.new ≡ words_left self.old) }
         ensures planned { IsErr result ↔ (FailsNext (plan_of self.old) ⊎ (words_left self.old ≡ [])) }
         ensures counted { AddsCall (plan_of self.old) (plan_of self.new) }
+        ensures risen { OnErr result ((plan_of self.new).faults ≡ one_more (plan_of self.old).faults) }
+        ensures level { OnOk result ((plan_of self.new).faults ≡ (plan_of self.old).faults) }
     {
         if self.plan.next_fails() {
             self.plan.count_fault();

@@ -5,9 +5,9 @@ ghost use Rattle.aws_world.specs.Moments.{with_moment, with_pause};
 ghost use Rattle.aws_world.specs.MemClock.{moments_told, moments_due, first_moment, later_moments};
 
 use crate::Clock;
-use json_doc::List;
 use std::alloc::Global;
 use std::collections::VecDeque;
+use texts::List;
 
 /// A clock that gives moments from a list and waits for nothing.
 #[derive(Debug, Drop)]

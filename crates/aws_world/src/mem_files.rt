@@ -1,6 +1,6 @@
 ghost use Rattle.std.specs.Prelude.{◌≡◌, ◌≤◌, ◌<◌, ◌↔◌, Option, None, Some, length, IfOk, IfSome, IfNone, OnOk, OnSome, IsErrOf, AllPairs};
 ghost use Rattle.std.specs.Option.{option_copied};
-ghost use Rattle.aws_world.specs.Told.{Rose};
+ghost use Rattle.aws_world.specs.Told.{Rose, one_more};
 ghost use Rattle.aws_world.specs.FaultPlan.{FailsNext, AddsCall, begin};
 ghost use Rattle.aws_world.specs.FileTree.{file_at, HasBelow, IsListing, IsLonger};
 ghost use Rattle.aws_world.specs.MemFiles.{files_held, plan_of};
@@ -8,8 +8,8 @@ ghost use Rattle.aws_world.specs.MemFiles.{files_held, plan_of};
 use crate::fault_plan::FaultPlan;
 use crate::folder::names_below;
 use crate::{FileEnd, Files};
-use json_doc::{Bytes, List, Text};
 use std::alloc::Global;
+use texts::{Bytes, List, Text};
 
 /// Files in memory, as pairs of a path and bytes. The first pair of a path counts.
 #[derive(Debug, Drop)]
@@ -56,6 +56,8 @@ impl Files for MemFiles {
         // What these files do beyond any files.
         ensures planned { IsErrOf result FileEnd.Failed ↔ FailsNext (plan_of self.old) }
         ensures counted { AddsCall (plan_of self.old) (plan_of self.new) }
+        ensures risen { IsErrOf result FileEnd.Failed → (plan_of self.new).faults ≡ one_more (plan_of self.old).faults }
+        ensures level { ¬ IsErrOf result FileEnd.Failed → (plan_of self.new).faults ≡ (plan_of self.old).faults }
     {
         if self.plan.next_fails() {
             self.plan.count_fault();
@@ -76,6 +78,8 @@ impl Files for MemFiles {
         // What these files do beyond any files.
         ensures planned { IsErrOf result FileEnd.Failed ↔ FailsNext (plan_of self.old) }
         ensures counted { AddsCall (plan_of self.old) (plan_of self.new) }
+        ensures risen { IsErrOf result FileEnd.Failed → (plan_of self.new).faults ≡ one_more (plan_of self.old).faults }
+        ensures level { ¬ IsErrOf result FileEnd.Failed → (plan_of self.new).faults ≡ (plan_of self.old).faults }
     {
         if self.plan.next_fails() {
             self.plan.count_fault();

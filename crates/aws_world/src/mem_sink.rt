@@ -1,13 +1,13 @@
-ghost use Rattle.std.specs.Prelude.{◌≡◌, ◌<◌, ◌≤◌, ◌↔◌, Some, [], ◌++◌, length, take, IfOk, OnErr, IsErr};
+ghost use Rattle.std.specs.Prelude.{◌≡◌, ◌<◌, ◌≤◌, ◌↔◌, Some, [], ◌++◌, length, take, IfOk, OnOk, OnErr, IsErr};
 ghost use Rattle.std.specs.Option.{option_copied};
-ghost use Rattle.aws_world.specs.Told.{Tells, HasCause};
+ghost use Rattle.aws_world.specs.Told.{Tells, HasCause, one_more};
 ghost use Rattle.aws_world.specs.FaultPlan.{FailsNext, AddsCall, begin};
 ghost use Rattle.aws_world.specs.MemSink.{bytes_taken, plan_of};
 
 use crate::fault_plan::FaultPlan;
 use crate::{Sink, SinkFault};
-use json_doc::List;
 use std::alloc::Global;
+use texts::List;
 
 /// A sink that keeps the bytes in memory.
 #[derive(Debug, Drop)]
@@ -69,6 +69,8 @@ impl Sink for MemSink {
         ensures whole { IfOk result (λ count. count ≡ length piece.now) }
         ensures planned { IsErr result ↔ FailsNext (plan_of self.old) }
         ensures counted { AddsCall (plan_of self.old) (plan_of self.new) }
+        ensures risen { OnErr result ((plan_of self.new).faults ≡ one_more (plan_of self.old).faults) }
+        ensures level { OnOk result ((plan_of self.new).faults ≡ (plan_of self.old).faults) }
     {
         if self.plan.next_fails() {
             self.plan.count_fault();

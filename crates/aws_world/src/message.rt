@@ -1,4 +1,4 @@
-use json_doc::{Bytes, List, Text};
+use texts::{Bytes, List, Text};
 
 /// A request of HTTP before it is written out. Path and query are already escaped.
 #[derive(Debug, Drop)]

@@ -1,14 +1,14 @@
 ghost use Rattle.std.specs.Prelude.{◌≡◌, ◌<◌, ◌≤◌};
-ghost use Rattle.aws_world.specs.Told.{Tells, Rose};
+ghost use Rattle.aws_world.specs.Told.{Tells, Rose, one_more};
 ghost use Rattle.aws_world.specs.Connection.{on_last, faulted};
 ghost use Rattle.aws_world.specs.ConnectionLog.{told_of};
 
 use crate::connection_log::{ConnectionLog, Kept};
 use crate::talk::{Script, Talk};
 use crate::{Link, LinkFault};
-use json_doc::{List, Text};
 use std::alloc::Global;
 use std::collections::VecDeque;
+use texts::{List, Text};
 
 /// A link whose connections go by scripts.
 #[derive(Debug, Drop)]
@@ -91,6 +91,8 @@ impl Link for ScriptLink {
         // What this link does beyond any link.
         ensures begun { talk_of self.new ≡ result_ok (next_talk (scripts_left self.old)) }
         ensures why { IfErr result (λ fault. next_talk (scripts_left self.old) ≡ Err fault) }
+        ensures risen { OnErr result (faults_of self.new ≡ one_more (faults_of self.old)) }
+        ensures level { OnOk result (faults_of self.new ≡ faults_of self.old) }
         ensures later { scripts_left self.new ≡ drop 1 (scripts_left self.old) }
         ensures piece { piece_of self.new ≡ piece_of self.old }
     {
@@ -129,6 +131,8 @@ impl Link for ScriptLink {
         ensures rest { IfSome (talk_of self.old) (λ talk. IfOk result (λ count. talk_of self.new
             ≡ Some (record talk { stop_send = less_taken count talk.stop_send }))) }
         ensures same { OnErr result (talk_of self.new ≡ talk_of self.old) }
+        ensures risen { OnErr result (faults_of self.new ≡ one_more (faults_of self.old)) }
+        ensures level { OnOk result (faults_of self.new ≡ faults_of self.old) }
         ensures scripts { scripts_left self.new ≡ scripts_left self.old }
         ensures piece { piece_of self.new ≡ piece_of self.old }
     {
@@ -168,6 +172,8 @@ impl Link for ScriptLink {
         ensures rest { IfSome (talk_of self.old) (λ talk. IfOk result (λ count. talk_of self.new
             ≡ Some (record talk { given = talk.given + count }))) }
         ensures same { OnErr result (talk_of self.new ≡ talk_of self.old) }
+        ensures risen { OnErr result (faults_of self.new ≡ one_more (faults_of self.old)) }
+        ensures level { OnOk result (faults_of self.new ≡ faults_of self.old) }
         ensures scripts { scripts_left self.new ≡ scripts_left self.old }
         ensures piece { piece_of self.new ≡ piece_of self.old }
     {
@@ -196,6 +202,9 @@ impl Link for ScriptLink {
         ensures none_live { is_some (talk_of self.new) ≡ false }
         ensures same { Tells (connections_told self.old) (connections_told self.new) (λ before after. after ≡ before) }
         ensures later { faults_of self.old ≤ faults_of self.new }
+
+        // What this link does beyond any link.
+        ensures level { faults_of self.new ≡ faults_of self.old }
         ensures scripts { scripts_left self.new ≡ scripts_left self.old }
         ensures piece { piece_of self.new ≡ piece_of self.old }
     {
@@ -209,6 +218,7 @@ fn note_fault(log: &mut ConnectionLog, faults: &mut u64, fault: LinkFault)
         (λ before after. after ≡ on_last (faulted fault) before) }
     ensures later { faults.old ≤ faults.new }
     ensures rose { Rose faults.old faults.new }
+    ensures risen { faults.new ≡ one_more faults.old }
 {
     *faults = faults.saturating_add(1);
     log.add_fault(fault);

@@ -2,8 +2,8 @@ ghost use Rattle.std.specs.Prelude.{◌≡◌, ◌<◌, ◌≤◌, ◌+◌, leng
 ghost use Rattle.aws_world.specs.Talk.{next_talk, sending, less_taken, receiving, reply_left};
 
 use crate::LinkFault;
-use json_doc::Bytes;
 use std::collections::VecDeque;
+use texts::Bytes;
 
 /// What one connection of a `ScriptLink` does.
 #[derive(Debug, Drop)]

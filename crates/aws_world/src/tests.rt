@@ -2,9 +2,9 @@ use crate::{
     Clock, Dice, DiceFault, Env, FileEnd, Files, Link, LinkFault, ListDice, MemClock, MemFiles,
     MemSink, Script, ScriptLink, Sink, SinkFault,
 };
-use json_doc::{Bytes, List, OutOfMemory, Text};
 use std::alloc::Global;
 use std::test::Fail;
+use texts::{Bytes, List, OutOfMemory, Text};
 
 fn numbers(alloc: Global, items: &[u64]) -> Result<List<u64>, OutOfMemory> {
     Ok(List::from_vec(Vec::from_slice(alloc, items)?))

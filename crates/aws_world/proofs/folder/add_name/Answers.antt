@@ -1,22 +1,18 @@
-use Rattle.std.proofs.Common.{◌≡◌, ◌≢◌, inl, inr, ⊎_elim, sym, subst, []}
-use Rattle.std.specs.Prelude.{Contains}
+use Rattle.std.proofs.Common.{◌≡◌, ◌≢◌, ◌⊎◌, inl, inr, ⊎_elim, ℕ, List, [], Ok, Err}
+use Rattle.std.specs.Prelude.{Contains, Result, OnOk, ◌↔◌}
 use Rattle.std.proofs.lemmas.Bool.{false≢true}
-use Rattle.aws_world.proofs.Names.{ascending_insert, insert_cases, insert_keeps, insert_has}
 use Rattle.aws_world.proofs.folder.add_name.Goals as goal
 
-pub returns-clause-ascending : goal.returns-clause-ascending
-returns-clause-ascending c =
-    let within = rw c.as_slice.ensures.value at c.in-Some.ensures.within in
-    let above = rw c.as_slice.ensures.value at c.in-Some.ensures.above in
-    let below = rw c.as_slice.ensures.value at c.in-Some.ensures.below in
-    rw c.in_ok-insert.ensures.items (ascending_insert _ c.in-Some.at c.args.name c.requires within above below)
+-- a name that isn't empty
+some_name : {T E : Type 0} (r : Result T E) (old new : List (List ℕ)) (name : List ℕ) → name ≢ []
+    → OnOk r ((other : List ℕ) → Contains new other ↔ (Contains old other ⊎ (other ≡ name)))
+    → OnOk r ((other : List ℕ) → Contains new other ↔ (Contains old other ⊎ ((other ≡ name) × (name ≢ []))))
+some_name (Err e) old new name some exact = tt
+some_name (Ok v) old new name some exact = λ other. (
+  λ h. ⊎_elim (λ l. inl l) (λ (e : other ≡ name). inr (e, some)) ((exact other).0 h),
+  λ h. (exact other).1 (⊎_elim (λ (l : Contains old other). inl l) (λ (r : (other ≡ name) × (name ≢ [])). inr r.0) h),
+)
 
 pub returns-clause-exact : goal.returns-clause-exact
-returns-clause-exact c other =
-    let names = c.args.names.now.items in
-    let name = c.args.name in
-    let some : name ≢ [] = λ none. false≢true (c.if-is_empty.ensures.1 none) in
-    rw c.in_ok-insert.ensures.items (
-      λ h. ⊎_elim (λ l. inl l) (λ (e : name ≡ other). inr (sym e, some)) (insert_cases names c.in-Some.at name other h),
-      λ h. ⊎_elim (λ (l : Contains names other). insert_keeps names c.in-Some.at name other l) (λ (r : (other ≡ name) × (name ≢ [])). subst (Contains _) (sym r.0) (insert_has names c.in-Some.at name)) h,
-    )
+returns-clause-exact c =
+    some_name c.put_in_order.result _ _ c.args.name (λ none. false≢true (c.if-is_empty.ensures.1 none)) c.put_in_order.ensures.exact

@@ -1,6 +1,7 @@
 use Rattle.std.proofs.Common.{List, ℕ, take}
 use Rattle.std.specs.Prelude.{AllPairs, Contains, IsTrue, ◌↔◌}
-use Rattle.aws_world.specs.FileTree.{IsBefore, IsChild, HasBelow}
+use Rattle.aws_world.specs.FileTree.{IsChild, HasBelow}
+use Rattle.texts.specs.Order.{IsBefore}
 use Rattle.aws_world.proofs.folder.names_below.Given as goal
 
 -- the names that the files so far lead to
