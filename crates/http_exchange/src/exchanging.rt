@@ -7,8 +7,8 @@ use crate::receiving::receive_reply;
 use crate::sending::send_all;
 use aws_world::{Link, Target};
 use http_reply::{Outcome, ReplyReader};
-use json_doc::Bytes;
 use std::alloc::Global;
+use texts::Bytes;
 
 #[cfg(test)]
 mod tests;

@@ -1,11 +1,11 @@
 ghost use Rattle.std.specs.Prelude.{◌≡◌, ◌++◌, ◌∷◌, [], codes, flat_map, length, IfOk, IsTrue, OnOk};
-ghost use Rattle.json_doc.specs.Ascii.{is_ascii_text};
+ghost use Rattle.texts.specs.Ascii.{is_ascii_text};
 ghost use Rattle.std.specs.Fmt.{decimal};
 ghost use Rattle.http_exchange.specs.Wire.{wire_of, request_line, parameters, line, header, has_length, has_body_method, length_line};
 
 use aws_world::Message;
-use json_doc::{Bytes, OutOfMemory, Text};
 use std::alloc::Global;
+use texts::{Bytes, OutOfMemory, Text};
 
 /// The bytes of a request (RFC 9112): the request line, the message's headers, `User-Agent`,
 /// `Content-Length` where there may be a body, `Connection: close`, an empty line, the body.

@@ -1,8 +1,10 @@
 pub mod AdvanceLemmas
 pub mod CaseLemmas
+pub mod ComputedLemmas
 pub mod CutLemmas
 pub mod PrintedLines
 pub mod PrintedReplies
+pub mod ReaderLemmas
 pub mod ReadLemmas
 pub mod ScanLemmas
 pub mod StepLemmas

@@ -1,5 +1,5 @@
 -- Bytes, an end and a fault have one outcome, and what a front decides stays.
-use Rattle.std.proofs.Common.{◌≡◌, ℕ, ◌+◌, ◌-◌, ◌<◌, ◌≤◌, ◌⊎◌, inl, inr, Bool, true, false, List, [], ◌++◌, length, take, Option, Some, refl, sym, ap, ◌∙◌, subst, arith, append-nil, length-append}
+use Rattle.std.proofs.Common.{◌≡◌, ℕ, ◌+◌, ◌-◌, ◌<◌, ◌≤◌, ◌⊎◌, inl, inr, Bool, List, [], ◌++◌, length, take, Option, Some, refl, sym, ap, ◌∙◌, subst, arith, append-nil, length-append}
 use Rattle.std.proofs.lemmas.Bool.{cases_lt, false≢true}
 use Rattle.std.proofs.Math.Seq.{take-append-add}
 use Rattle.std.proofs.lemmas.List.{take_all, take-append-le}
@@ -13,7 +13,7 @@ use Rattle.http_reply.specs.Laws.{IsSame, HasOneOutcome, FrontDecides}
 use Rattle.http_reply.proofs.MoveLemmas.{one_verdict, not_both, one_wait, decides_more}
 
 -- what the end and the fault make of a phase that waits
-abbrev EndsAs : Phase → List ℕ → Bool → Option LinkFault → Outcome → Type 0
+abbrev pub EndsAs : Phase → List ℕ → Bool → Option LinkFault → Outcome → Type 0
 EndsAs q rest ended fault (Lost kind) = fault ≡ Some kind
 EndsAs q rest ended fault Cut = IsCutIn q × HasEnded ended fault
 EndsAs q rest ended fault (Whole reply) = (start : Reply) × (q ≡ to_end start) × HasEnded ended fault × (reply ≡ with_more start rest)
@@ -22,17 +22,17 @@ EndsAs q rest ended fault TooLarge = ⊥
 EndsAs q rest ended fault OutOfMemory = ⊥
 
 -- the bytes past the limit of all
-abbrev IsPast : Bool → List ℕ → Type 0
+abbrev pub IsPast : Bool → List ℕ → Type 0
 IsPast head_only received = Waits head_only (seen received) × (268435456 < length received)
 
 -- the three ways to an outcome: the bytes decide, they are too many, or the peer's end does
-abbrev Ends : Bool → List ℕ → Bool → Option LinkFault → Outcome → Type 0
+abbrev pub Ends : Bool → List ℕ → Bool → Option LinkFault → Outcome → Type 0
 Ends head_only received ended fault a =
     HasVerdict head_only received a
     ⊎ ((IsPast head_only received × (a ≡ TooLarge))
     ⊎ ((q : Phase) × (rest : List ℕ) × IsWaiting head_only received q rest × EndsAs q rest ended fault a))
 
-ends : (head_only : Bool) (received : List ℕ) (ended : Bool) (fault : Option LinkFault) (a : Outcome)
+pub ends : (head_only : Bool) (received : List ℕ) (ended : Bool) (fault : Option LinkFault) (a : Outcome)
     → IsOutcome head_only received ended fault a → (a ≡ OutOfMemory) ⊎ Ends head_only received ended fault a
 ends head_only received ended fault (Whole reply) (inl x) = inr (inl x)
 ends head_only received ended fault (Whole reply) (inr x) = inr (inr (inr (to_end x.0, x.1, x.2, (x.0, refl, x.3, x.4))))
@@ -47,7 +47,7 @@ ends head_only received ended fault OutOfMemory x = inl refl
 pub seen_all : (received : List ℕ) → length received ≤ 268435456 → seen received ≡ received
 seen_all received h = take_all 268435456 received h
 
-waits_seen : (head_only : Bool) (received : List ℕ) (q : Phase) (rest : List ℕ)
+pub waits_seen : (head_only : Bool) (received : List ℕ) (q : Phase) (rest : List ℕ)
     → IsWaiting head_only received q rest → Awaits head_only (heads 0) (seen received) q rest
 waits_seen head_only received q rest x =
     subst (λ b. Awaits head_only (heads 0) b q rest) (sym (seen_all received x.1)) x.0

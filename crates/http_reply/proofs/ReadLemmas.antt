@@ -1,5 +1,5 @@
 -- What one more piece makes of a reader that waits.
-use Rattle.std.proofs.Common.{◌≡◌, ℕ, ◌+◌, ◌<◌, ◌≤◌, Bool, false, None, List, [], ◌++◌, length, take, drop, sym, ap, ◌∙◌, subst, arith, append_assoc, length-append}
+use Rattle.std.proofs.Common.{◌≡◌, ℕ, ◌+◌, ◌<◌, ◌≤◌, Bool, false, None, List, ◌++◌, length, take, drop, sym, ap, ◌∙◌, subst, arith, append_assoc, length-append}
 use Rattle.std.proofs.lemmas.List.{take-append-drop, take_at, length-take-le}
 use Rattle.aws_world.specs.declared.message.Reply.{Reply}
 use Rattle.http_reply.specs.declared.outcome.Outcome.{Outcome}

@@ -1,3 +1,4 @@
+pub mod Computed
 pub mod Cuts
 pub mod Fields
 pub mod Kinds
@@ -5,5 +6,6 @@ pub mod Laws
 pub mod Machine
 pub mod Outcome
 pub mod Printed
+pub mod Readers
 pub mod Reading
 pub mod Waiting

@@ -1,5 +1,5 @@
 -- What comes of the bytes that were received of a reply, however they came.
-use Rattle.std.specs.Prelude.{◌≡◌, ℕ, ◌+◌, ◌<◌, ◌≤◌, ◌⊎◌, Bool, true, List, [], length, take, sum_by, Option, None, Some}
+use Rattle.std.specs.Prelude.{◌≡◌, ℕ, ◌+◌, ◌<◌, ◌≤◌, ◌⊎◌, Bool, true, List, length, take, sum_by, Option, None, Some}
 use Rattle.aws_world.specs.declared.link.LinkFault.{LinkFault}
 use Rattle.aws_world.specs.declared.message.Reply.{Reply}
 use Rattle.http_reply.specs.declared.outcome.Outcome.{Outcome}

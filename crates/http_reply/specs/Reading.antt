@@ -1,5 +1,6 @@
--- What a reader of replies keeps between two pieces.
-use Rattle.std.specs.Prelude.{◌≡◌, ℕ, ◌+◌, ◌≤◌, Bool, List, [], ◌++◌, length, take, drop, option_map}
+-- What a reader of replies keeps between two pieces. The states that it names are private, and so are the
+-- contracts that cite them, but for those of `ReplyReader`, which is in one of these states.
+use Rattle.std.specs.Prelude.{◌≡◌, ℕ, ◌+◌, ◌≤◌, Bool, List, [], length, take, drop, option_map}
 use Rattle.aws_world.specs.declared.message.Reply.{Reply}
 use Rattle.http_reply.specs.declared.outcome.Outcome.TheVariants.{Whole, Malformed, TooLarge}
 use Rattle.http_reply.specs.declared.steps.Due.{Due}

@@ -4,7 +4,7 @@ ghost use Rattle.std.specs.Str.{chars, str_eq_ignore_ascii_case};
 ghost use Rattle.http_reply.specs.Fields.{header_of};
 
 use aws_world::Reply;
-use json_doc::Text;
+use texts::Text;
 
 /// Whether a text is a name, without regard to the case of ASCII letters.
 fn is_name(text: &Text, name: &str) -> bool

@@ -11,8 +11,8 @@ use crate::limits::{FIELD_LIMIT, HEAD_LIMIT};
 use aws_world::Reply;
 use httparse::Status;
 use httparse::spans::{EMPTY_HEADER_SPAN, HeaderSpan, parse_response};
-use json_doc::{Bytes, List, OutOfMemory, Text};
 use std::alloc::Global;
+use texts::{Bytes, List, OutOfMemory, Text};
 
 /// The text of bytes that are Latin-1.
 fn latin1(alloc: Global, bytes: &[u8]) -> Result<Text, OutOfMemory>

@@ -13,7 +13,7 @@ use httparse::spans::HeaderSpan;
 
 /// What follows a head (RFC 9112, section 6.3).
 #[derive(Clone, Copy, Debug, PartialEq, Eq)]
-pub(crate) enum Kind {
+pub enum Kind {
     /// Another head, since this one is interim.
     Interim,
     NoBody,

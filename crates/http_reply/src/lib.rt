@@ -13,7 +13,11 @@ mod reader;
 mod steps;
 
 pub use headers::header;
-pub use laws::{ended_is_whole, front_decides, has_one_outcome, printed_is_whole};
+pub use kinds::Kind;
+pub use laws::{
+    ended_is_whole, front_decides, has_one_outcome, outcome_is_computed, outcome_is_there,
+    printed_is_whole,
+};
 pub use limits::{BODY_LIMIT, HEAD_LIMIT, TOTAL_LIMIT};
 pub use outcome::Outcome;
 pub use reader::ReplyReader;

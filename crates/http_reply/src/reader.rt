@@ -10,9 +10,9 @@ use crate::limits::TOTAL_LIMIT;
 use crate::outcome::Outcome;
 use crate::steps::{Due, Stepped, step};
 use aws_world::{LinkFault, Reply};
-use json_doc::{Bytes, List, OutOfMemory};
 use std::alloc::Global;
 use std::mem;
+use texts::{Bytes, List, OutOfMemory};
 
 /// What bytes made of a reply.
 #[derive(Clone, Copy, Debug, PartialEq, Eq)]

@@ -17,8 +17,8 @@ use crate::kinds::Kind;
 use crate::limits::{BODY_LIMIT, CHUNK_LINE_LIMIT, HEAD_LIMIT, LINE_LIMIT};
 use aws_world::Reply;
 use httparse::{Status, parse_chunk_size};
-use json_doc::OutOfMemory;
 use std::alloc::Global;
+use texts::OutOfMemory;
 
 /// What is due next. Heads and trailers count the bytes of those before.
 #[derive(Clone, Copy, Debug, PartialEq, Eq)]

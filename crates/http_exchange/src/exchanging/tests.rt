@@ -2,10 +2,10 @@ ghost use Rattle.std.specs.Prelude.{◌≤◌};
 
 use super::*;
 use aws_world::{LinkFault, Script, ScriptLink};
-use json_doc::{List, OutOfMemory, Text};
 use std::process::Abort;
 use std::str;
 use std::test::Fail;
+use texts::{List, OutOfMemory, Text};
 
 const REQUEST: &[u8] =
     b"POST / HTTP/1.1\r\nHost: 127.0.0.1:8080\r\nContent-Length: 2\r\nConnection: close\r\n\r\n{}";

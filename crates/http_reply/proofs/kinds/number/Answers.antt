@@ -1,4 +1,4 @@
-use Rattle.std.proofs.Common.{◌≡◌, ◌+◌, ◌-◌, get_or, min, true, sym, ap, ◌∙◌}
+use Rattle.std.proofs.Common.{◌≡◌, ◌+◌, get_or, min, true, sym, ap, ◌∙◌}
 use Rattle.std.specs.Char.{is_ascii_digit}
 use Rattle.http_reply.proofs.KindLemmas.{digits_value_more, all_digits_more, saturated}
 use Rattle.http_reply.proofs.kinds.number.Goals as goal

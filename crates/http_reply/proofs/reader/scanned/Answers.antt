@@ -1,4 +1,4 @@
-use Rattle.std.proofs.Common.{◌+◌, ◌-◌, ◌++◌, ap, ◌∙◌, sym, subst}
+use Rattle.std.proofs.Common.{◌-◌, ◌++◌, ap, ◌∙◌, sym, subst}
 use Rattle.http_reply.specs.declared.steps.Due.TheVariants as due
 use Rattle.http_reply.specs.Reading.{IsScanned}
 use Rattle.http_reply.proofs.ScanLemmas.{scanned_head, scanned_line, scanned_trailer}

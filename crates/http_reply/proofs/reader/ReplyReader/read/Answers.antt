@@ -1,4 +1,4 @@
-use Rattle.std.proofs.Common.{◌≡◌, ◌+◌, ◌-◌, min, ◌++◌, inr, arith, ◌∙◌, subst, Some}
+use Rattle.std.proofs.Common.{◌≡◌, ◌-◌, ◌++◌, inr, arith, ◌∙◌, subst, Some}
 use Rattle.std.proofs.lemmas.List.{take_all}
 use Rattle.http_reply.specs.Waiting.{WaitsAfter, Gives}
 use Rattle.http_reply.proofs.ReadLemmas.{outcome_of_all, past_all}

@@ -1,0 +1,5 @@
+use Rattle.http_reply.proofs.ComputedLemmas.{outcome_is_computed}
+use Rattle.http_reply.proofs.laws.outcome_is_computed.Goals as goal
+
+pub returns : goal.returns
+returns c = outcome_is_computed
