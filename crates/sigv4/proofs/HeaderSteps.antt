@@ -4,7 +4,7 @@ use Rattle.std.specs.Prelude.{bytes_eq, codes, filter}
 use Rattle.std.proofs.lemmas.Bool.{cond-true, cond-false}
 use Rattle.std.proofs.lemmas.List.{at_drop_more}
 use Rattle.sigv4.specs.Joined.{behind}
-use Rattle.sigv4.specs.Headers.{lowered, canonical_header, is_signed, signed_headers, values_of}
+use Rattle.sigv4.specs.Headers.{lowered, canonical_header, is_signed, canonical_headers, values_of}
 
 -- one more text behind its mark
 pub one_more : (out before mark text : List ℕ) (texts : List (List ℕ))
@@ -26,11 +26,11 @@ module _ (headers : List (List ℕ × List ℕ)) (i : ℕ) (item : List ℕ × L
       ∙ ap (map (λ h. h.1)) (cond-true (bytes_eq item.0 name) (item ∷ filter (λ h. bytes_eq h.0 name) rest) (filter (λ h. bytes_eq h.0 name) rest) same)
 
   -- `Authorization` isn't signed
-  pub header_out : bytes_eq (lowered item.0) (codes "authorization") ≡ true → signed_headers (drop i headers) ≡ signed_headers rest
+  pub header_out : bytes_eq (lowered item.0) (codes "authorization") ≡ true → canonical_headers (drop i headers) ≡ canonical_headers rest
   header_out is_it =
-      here signed_headers ∙ ap (map canonical_header) (cond-false (is_signed item) (item ∷ filter is_signed rest) (filter is_signed rest) (ap not is_it))
+      here canonical_headers ∙ ap (map canonical_header) (cond-false (is_signed item) (item ∷ filter is_signed rest) (filter is_signed rest) (ap not is_it))
 
   -- every other header is
-  pub header_in : bytes_eq (lowered item.0) (codes "authorization") ≡ false → signed_headers (drop i headers) ≡ canonical_header item ∷ signed_headers rest
+  pub header_in : bytes_eq (lowered item.0) (codes "authorization") ≡ false → canonical_headers (drop i headers) ≡ canonical_header item ∷ canonical_headers rest
   header_in other =
-      here signed_headers ∙ ap (map canonical_header) (cond-true (is_signed item) (item ∷ filter is_signed rest) (filter is_signed rest) (ap not other))
+      here canonical_headers ∙ ap (map canonical_header) (cond-true (is_signed item) (item ∷ filter is_signed rest) (filter is_signed rest) (ap not other))

@@ -6,4 +6,6 @@ pub mod HeaderSteps
 pub mod Listed
 pub mod PathParts
 pub mod PlainDigits
+pub mod OneForms
 pub mod SortedPairs
+pub mod SortedSame

@@ -4,7 +4,7 @@ use Rattle.std.specs.Str.{chars, IsAscii}
 use Rattle.std.proofs.lemmas.Str.{chars-IsAscii}
 use Rattle.std.proofs.lemmas.Str.Ascii.{IsAscii-nil, IsAscii-cons}
 use borrow.Author.Tests.{ltb-true}
-use Rattle.json_doc.specs.Ascii.{is_ascii_text}
+use Rattle.texts.specs.Ascii.{is_ascii_text}
 use Rattle.hex.specs.Hex.{encode_lower, lower_digits}
 use Rattle.hex.proofs.HexLemmas.{IsAscii-encode_with}
 

@@ -7,6 +7,8 @@ use Rattle.std.specs.declared.cmp.Ordering.{Ordering}
 use Rattle.std.specs.Cmp.Lexicographic.{slice_cmp}
 use Rattle.std.specs.Str.{chars}
 use Rattle.std.proofs.lemmas.List.{get_or-map, length-map}
+use Rattle.texts.specs.Order.{text_cmp}
+use Rattle.texts.proofs.ByteOrder.{text_cmp-bytes}
 use Rattle.sigv4.specs.Parameters.{parameter_cmp, shown}
 
 -- the bytes are those of the characters
@@ -17,9 +19,15 @@ IsText p = (p.0.now ≡ encode_utf8_all (chars p.0.now)) × (p.1.now ≡ encode_
 abbrev pub bytes_cmp : Bor (List ℕ) × Bor (List ℕ) → Bor (List ℕ) × Bor (List ℕ) → Ordering
 bytes_cmp p q = ordering_then (slice_cmp nat_cmp p.0.now q.0.now) (slice_cmp nat_cmp p.1.now q.1.now)
 
+by_bytes : (x y : List ℕ) → x ≡ encode_utf8_all (chars x) → y ≡ encode_utf8_all (chars y) → text_cmp (chars x) (chars y) ≡ slice_cmp nat_cmp x y
+by_bytes x y a b =
+    sym (ap (λ bytes. slice_cmp nat_cmp bytes y) a ∙ ap (slice_cmp nat_cmp (encode_utf8_all (chars x))) b ∙ text_cmp-bytes (chars x) (chars y))
+
 -- is that of their characters
 same_order : (p q : Bor (List ℕ) × Bor (List ℕ)) → IsText p → IsText q → parameter_cmp (shown p) (shown q) ≡ bytes_cmp p q
-same_order p q a b = rw (sym a.0, sym b.0, sym a.1, sym b.1) refl
+same_order p q a b =
+    ap (λ o. ordering_then o (text_cmp (chars p.1.now) (chars q.1.now))) (by_bytes p.0.now q.0.now a.0 b.0)
+    ∙ ap (ordering_then (slice_cmp nat_cmp p.0.now q.0.now)) (by_bytes p.1.now q.1.now a.1 b.1)
 
 pub sorted_shown : (pairs : List (Bor (List ℕ) × Bor (List ℕ))) → All IsText pairs → IsSorted bytes_cmp pairs → IsSorted parameter_cmp (map shown pairs)
 sorted_shown [] texts sorted = λ k d low high. absurd (omega arith)

@@ -5,11 +5,11 @@ use Rattle.hex.specs.Hex.{encode_lower}
 use Rattle.aws_world.specs.declared.message.Message.{Message}
 use Rattle.sigv4.specs.Joined.{line}
 use Rattle.sigv4.specs.Path.{canonical_path}
-use Rattle.sigv4.specs.Parameters.{query_text}
-use Rattle.sigv4.specs.Headers.{signed_headers, header_lines, names_text}
+use Rattle.sigv4.specs.Parameters.{canonical_query}
+use Rattle.sigv4.specs.Headers.{canonical_headers, header_lines, signed_headers}
 
 -- the method, the path, the query, the headers, their names and the body's hash
 abbrev pub canonical_request : Message → List (List ℕ × List ℕ) → List (List ℕ) → List ℕ
 canonical_request m query names =
-    line m.method ++ line (canonical_path m.path) ++ line (query_text query)
-    ++ line (header_lines (signed_headers m.headers) names) ++ line (names_text names) ++ encode_lower (sha256 m.body)
+    line m.method ++ line (canonical_path m.path) ++ line (canonical_query query)
+    ++ line (header_lines (canonical_headers m.headers) names) ++ line (signed_headers names) ++ encode_lower (sha256 m.body)

@@ -1,7 +1,7 @@
 -- The headers that are signed: AWS's "Create a signed AWS API request", CanonicalHeaders and SignedHeaders.
 use Rattle.std.specs.Prelude.{ℕ, Bool, true, false, not, ◌==◌, ◌||◌, ◌&&◌, if◌then◌else◌, List, [], ◌∷◌, ◌++◌, map, filter, flat_map, reverse, codes, bytes_eq, AllPairs, Contains, ◌↔◌}
 use Rattle.std.specs.Char.{to_ascii_lowercase}
-use Rattle.aws_world.specs.FileTree.{IsBefore}
+use Rattle.texts.specs.Order.{IsBefore}
 use Rattle.sigv4.specs.Joined.{joined, line}
 
 -- a space or a tab
@@ -37,11 +37,11 @@ abbrev pub is_signed : List ℕ × List ℕ → Bool
 is_signed h = not (bytes_eq (lowered h.0) (codes "authorization"))
 
 -- the headers that are signed, in the message's order
-abbrev pub signed_headers : List (List ℕ × List ℕ) → List (List ℕ × List ℕ)
-signed_headers headers = map canonical_header (filter is_signed headers)
+abbrev pub canonical_headers : List (List ℕ × List ℕ) → List (List ℕ × List ℕ)
+canonical_headers headers = map canonical_header (filter is_signed headers)
 
 -- the names of headers, each once, in ascending order
-pub record AreNames (headers : List (List ℕ × List ℕ)) (names : List (List ℕ)) : Type 0 where
+pub record AreSignedNames (headers : List (List ℕ × List ℕ)) (names : List (List ℕ)) : Type 0 where
   pub ascending : AllPairs IsBefore names
   pub exact : (name : List ℕ) → Contains names name ↔ Contains (map (λ h. h.0) headers) name
 
@@ -58,5 +58,5 @@ abbrev pub header_lines : List (List ℕ × List ℕ) → List (List ℕ) → Li
 header_lines headers names = flat_map (header_line headers) names
 
 -- the list of the names
-abbrev pub names_text : List (List ℕ) → List ℕ
-names_text names = joined (codes ";") names
+abbrev pub signed_headers : List (List ℕ) → List ℕ
+signed_headers names = joined (codes ";") names

@@ -4,6 +4,7 @@ pub mod Headers
 pub mod Hmac
 pub mod Joined
 pub mod Moment
+pub mod OneForm
 pub mod Parameters
 pub mod Path
 pub mod Signature

@@ -1,15 +1,11 @@
 -- The canonical query: AWS's "Create a signed AWS API request", CanonicalQueryString.
-use Rattle.std.specs.Prelude.{ℕ, List, ◌++◌, ◌∷◌, map, codes, encode_utf8_all, IsPermutation, IsSorted}
+use Rattle.std.specs.Prelude.{ℕ, List, ◌++◌, ◌∷◌, map, codes, IsPermutation, IsSorted}
 use Rattle.std.specs.Borrow.{Bor}
 use Rattle.std.specs.Str.{chars}
-use Rattle.std.specs.Ordering.{nat_cmp, ordering_then}
+use Rattle.std.specs.Ordering.{ordering_then}
 use Rattle.std.specs.declared.cmp.Ordering.{Ordering}
-use Rattle.std.specs.Cmp.Lexicographic.{slice_cmp}
+use Rattle.texts.specs.Order.{text_cmp}
 use Rattle.sigv4.specs.Joined.{joined}
-
--- the order of texts by their bytes
-abbrev pub text_cmp : List ℕ → List ℕ → Ordering
-text_cmp a b = slice_cmp nat_cmp (encode_utf8_all a) (encode_utf8_all b)
 
 -- by the name, then by the value
 abbrev pub parameter_cmp : List ℕ × List ℕ → List ℕ × List ℕ → Ordering
@@ -25,8 +21,8 @@ abbrev pub parameter : List ℕ × List ℕ → List ℕ
 parameter p = p.0 ++ codes "=" ++ p.1
 
 -- the text of sorted parameters
-abbrev pub query_text : List (List ℕ × List ℕ) → List ℕ
-query_text sorted = joined (codes "&") (map parameter sorted)
+abbrev pub canonical_query : List (List ℕ × List ℕ) → List ℕ
+canonical_query sorted = joined (codes "&") (map parameter sorted)
 
 -- the characters of a parameter that is borrowed
 abbrev pub shown : Bor (List ℕ) × Bor (List ℕ) → List ℕ × List ℕ

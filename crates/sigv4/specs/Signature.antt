@@ -9,7 +9,7 @@ use Rattle.sigv4.specs.Hmac.{hmac_of}
 use Rattle.sigv4.specs.Joined.{line}
 use Rattle.sigv4.specs.Moment.{IsAt, date_text, moment_text}
 use Rattle.sigv4.specs.Parameters.{IsSortedQuery}
-use Rattle.sigv4.specs.Headers.{signed_headers, AreNames, names_text}
+use Rattle.sigv4.specs.Headers.{canonical_headers, AreSignedNames, signed_headers}
 use Rattle.sigv4.specs.Canonical.{canonical_request}
 
 -- a message with one more header
@@ -56,7 +56,7 @@ signature_of signer moment request =
 abbrev pub authorization_of : Signer → DateTime → List (List ℕ) → List ℕ → List ℕ
 authorization_of signer moment names signature =
     codes "AWS4-HMAC-SHA256 Credential=" ++ signer.access ++ codes "/" ++ scope_of signer moment
-    ++ codes ", SignedHeaders=" ++ names_text names ++ codes ", Signature=" ++ signature
+    ++ codes ", SignedHeaders=" ++ signed_headers names ++ codes ", Signature=" ++ signature
 
 -- a message with its signature in `Authorization`, over a sorted query and names
 abbrev pub authorized : Signer → DateTime → Message → List (List ℕ × List ℕ) → List (List ℕ) → Message
@@ -69,7 +69,7 @@ pub record IsSignedAt (message : Message) (signer : Signer) (moment : DateTime) 
   pub query : List (List ℕ × List ℕ)
   pub names : List (List ℕ)
   pub query_is : IsSortedQuery message.query query
-  pub names_are : AreNames (signed_headers (stamped message signer moment).headers) names
+  pub names_are : AreSignedNames (canonical_headers (stamped message signer moment).headers) names
   pub signed_is : signed ≡ authorized signer moment (stamped message signer moment) query names
 
 -- the message as it is signed so many seconds after 1970 begins

@@ -7,8 +7,8 @@ use crate::moments::{push_date, push_moment};
 use crate::pieces::{push_hash, push_hex, push_joined};
 use crate::signer::Signer;
 use jiff::civil::DateTime;
-use json_doc::{OutOfMemory, Text};
 use std::alloc::Global;
+use texts::{OutOfMemory, Text};
 
 /// The value of `Authorization` for a canonical request ("Create a signed AWS API request", steps 2
 /// to 5) with these names of signed headers.

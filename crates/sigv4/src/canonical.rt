@@ -1,15 +1,15 @@
 ghost use Rattle.std.specs.Prelude.{◌≡◌, map, IfOk};
 ghost use Rattle.sigv4.specs.Canonical.{canonical_request};
-ghost use Rattle.sigv4.specs.Headers.{signed_headers};
+ghost use Rattle.sigv4.specs.Headers.{canonical_headers};
 ghost use Rattle.sigv4.specs.Parameters.{shown};
 
+use crate::canonical_headers::CanonicalHeaders;
 use crate::parameters::push_query;
 use crate::paths::push_path;
 use crate::pieces::{push_hash, push_joined};
-use crate::signed_headers::SignedHeaders;
 use aws_world::Message;
-use json_doc::{OutOfMemory, Text};
 use std::alloc::Global;
+use texts::{OutOfMemory, Text};
 
 /// The canonical request ("Create a signed AWS API request", step 1): method, path, query, headers,
 /// their names and the body's hash.
@@ -17,9 +17,9 @@ pub fn canonical_request(
     alloc: Global,
     message: &Message,
     query: &[(&str, &str)],
-    headers: &SignedHeaders,
+    headers: &CanonicalHeaders,
 ) -> Result<Text, OutOfMemory>
-    requires { headers.now.fields ≡ signed_headers message.now.headers }
+    requires { headers.now.fields ≡ canonical_headers message.now.headers }
     ensures { IfOk result (λ request. request ≡ canonical_request message.now (map shown query.now) headers.now.names) }
 {
     let mut request = message.method.copy(alloc)?;

@@ -2,8 +2,8 @@ ghost use Rattle.std.specs.Prelude.{◌≡◌, ◌==◌, ◌&&◌, ◌++◌, ◌
 ghost use Rattle.std.specs.Str.{chars};
 ghost use Rattle.sigv4.specs.Headers.{is_blank, without_first_blanks, trimmed, canonical_value, lowered};
 
-use json_doc::{OutOfMemory, Text};
 use std::alloc::Global;
+use texts::{OutOfMemory, Text};
 
 /// A name in small letters.
 pub fn lowered(alloc: Global, name: &str) -> Result<Text, OutOfMemory>

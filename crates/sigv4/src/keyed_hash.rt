@@ -2,9 +2,9 @@ ghost use Rattle.std.specs.Prelude.{◌≡◌, ◌≤◌, ◌++◌, length, IfOk
 ghost use Rattle.sha2.specs.Sha256.{sha256};
 ghost use Rattle.sigv4.specs.Hmac.{padded, key_block, masked, hmac_of};
 
-use json_doc::{Bytes, OutOfMemory};
 use sha2::{Digest, Sha256};
 use std::alloc::Global;
+use texts::{Bytes, OutOfMemory};
 
 /// The bytes of a block of SHA-256 (FIPS 180-4, section 5.2.1).
 const BLOCK: usize = 64;

@@ -3,21 +3,23 @@
 
 mod authorization;
 mod canonical;
+mod canonical_headers;
 mod header_names;
 mod header_values;
 mod keyed_hash;
+mod laws;
 mod moments;
 mod parameters;
 mod paths;
 mod pieces;
 mod sign_fault;
-mod signed_headers;
 mod signer;
 mod signing;
 #[cfg(test)]
 mod tests;
 
 pub use keyed_hash::hmac;
+pub use laws::has_one_signed_form;
 pub use sign_fault::SignFault;
 pub use signer::Signer;
 pub use signing::sign;

@@ -4,7 +4,7 @@ ghost use Rattle.sigv4.specs.Moment.{IsMoment, IsAt, two_digits, date_text, cloc
 
 use jiff::SignedDuration;
 use jiff::civil::DateTime;
-use json_doc::{OutOfMemory, Text};
+use texts::{OutOfMemory, Text};
 
 /// The last second of the year 9999, in seconds since 1970.
 const LAST_MOMENT: i64 = 253_402_300_799;

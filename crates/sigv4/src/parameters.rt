@@ -1,9 +1,9 @@
 ghost use Rattle.std.specs.Prelude.{◌≡◌, ◌++◌, map, IfOk, OnOk};
-ghost use Rattle.sigv4.specs.Parameters.{IsSortedQuery, parameter, query_text, shown};
+ghost use Rattle.sigv4.specs.Parameters.{IsSortedQuery, parameter, canonical_query, shown};
 ghost use Rattle.std.specs.Str.{chars};
 
-use json_doc::{OutOfMemory, Text};
 use std::alloc::Global;
+use texts::{OutOfMemory, Text};
 
 /// The parameters of a query in the order of their names, then of their values.
 pub fn sorted_query<'a>(
@@ -22,7 +22,7 @@ pub fn sorted_query<'a>(
 
 /// Puts the parameters, already escaped, with `&` between each two.
 pub fn push_query(out: &mut Text, sorted: &[(&str, &str)]) -> Result<(), OutOfMemory>
-    ensures { OnOk result (out.new ≡ out.old ++ query_text (map shown sorted.now)) }
+    ensures { OnOk result (out.new ≡ out.old ++ canonical_query (map shown sorted.now)) }
 {
     let mut before = "";
     for (name, value) in sorted {

@@ -1,11 +1,11 @@
 ghost use Rattle.std.specs.Prelude.{◌≡◌, ◌++◌, flat_map, IsTrue, IfOk, OnOk};
-ghost use Rattle.json_doc.specs.Ascii.{is_ascii_text};
+ghost use Rattle.texts.specs.Ascii.{is_ascii_text};
 ghost use Rattle.std.specs.Str.{chars};
 ghost use Rattle.sigv4.specs.Path.{with_segment, segments_of, rooted, final_slash, normal_path, escaped_byte, canonical_path};
 
-use json_doc::{OutOfMemory, Text};
 use percent_encoding::{AsciiSet, NON_ALPHANUMERIC, ascii_set, percent_encode};
 use std::alloc::Global;
+use texts::{OutOfMemory, Text};
 
 /// All but the unreserved characters (RFC 3986, section 2.3) and `/`.
 const ESCAPED: AsciiSet = ascii_set!(

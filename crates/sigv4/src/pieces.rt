@@ -1,12 +1,12 @@
 ghost use Rattle.std.specs.Prelude.{◌≡◌, ◌++◌, IsTrue, IfOk, OnOk, [], ◌∷◌};
-ghost use Rattle.json_doc.specs.Ascii.{is_ascii_text};
+ghost use Rattle.texts.specs.Ascii.{is_ascii_text};
 ghost use Rattle.sha2.specs.Sha256.{sha256};
 ghost use Rattle.hex.specs.Hex.{encode_lower};
 ghost use Rattle.sigv4.specs.Joined.{joined};
 
-use json_doc::{List, OutOfMemory, Text};
 use sha2::{Digest, Sha256};
 use std::alloc::Global;
+use texts::{List, OutOfMemory, Text};
 
 /// Puts the texts with a mark between each two.
 pub fn push_joined(out: &mut Text, mark: &str, texts: &[Text]) -> Result<(), OutOfMemory>

@@ -2,9 +2,9 @@ ghost use Rattle.std.specs.Prelude.{◌≡◌, Some};
 ghost use Rattle.sigv4.specs.declared.sign_fault.SignFault.TheVariants.{OutOfMemory as out_of_memory};
 ghost use Rattle.sigv4.specs.FaultText.{fault_text};
 
-use json_doc::OutOfMemory;
 use std::error::Error;
 use std::fmt;
+use texts::OutOfMemory;
 
 /// Why a request was not signed.
 #[derive(Clone, Copy, Debug, PartialEq, Eq)]

@@ -1,4 +1,4 @@
-use json_doc::Text;
+use texts::Text;
 
 /// Who signs, for which region and service. It isn't printed, since it holds a secret.
 #[derive(Drop)]

@@ -1,20 +1,20 @@
 ghost use Rattle.std.specs.Prelude.{◌≡◌, ◌⊎◌, IsTrue, IfOk, IfErr, Err};
-ghost use Rattle.json_doc.specs.Ascii.{is_ascii_text};
+ghost use Rattle.texts.specs.Ascii.{is_ascii_text};
 ghost use Rattle.sigv4.specs.Moment.{IsMoment, IsAt};
 ghost use Rattle.sigv4.specs.Signature.{IsSigned, IsSignedAt, with_header, with_token, stamped};
 
 use crate::authorization::authorization;
 use crate::canonical::canonical_request;
+use crate::canonical_headers::CanonicalHeaders;
 use crate::moments::{moment_at, push_moment};
 use crate::parameters::sorted_query;
 use crate::pieces::{copy_pairs, push_header};
 use crate::sign_fault::SignFault;
-use crate::signed_headers::SignedHeaders;
 use crate::signer::Signer;
 use aws_world::Message;
 use jiff::civil::DateTime;
-use json_doc::{Bytes, OutOfMemory, Text};
 use std::alloc::Global;
+use texts::{Bytes, OutOfMemory, Text};
 
 /// The message signed at a moment in seconds since 1970 (AWS Signature Version 4): with `X-Amz-Date`,
 /// `X-Amz-Security-Token` where there is a session, and `Authorization` behind its headers.
@@ -47,7 +47,7 @@ fn signed_at(
 {
     let made = stamped(alloc, message, signer, moment)?;
     let query = sorted_query(alloc, message.query.as_slice())?;
-    let headers = SignedHeaders::of(alloc, made.headers.as_slice())?;
+    let headers = CanonicalHeaders::of(alloc, made.headers.as_slice())?;
     let request = canonical_request(alloc, &made, query.as_slice(), &headers)?;
     let value = authorization(alloc, signer, moment, headers.names.as_slice(), &request)?;
     Ok(with_header(alloc, made, "Authorization", value)?)

@@ -1,13 +1,13 @@
 use crate::canonical::canonical_request;
+use crate::canonical_headers::CanonicalHeaders;
 use crate::parameters::sorted_query;
 use crate::paths::push_path;
 use crate::pieces::push_hash;
-use crate::signed_headers::SignedHeaders;
 use crate::{SignFault, Signer, hmac, sign};
 use aws_world::Message;
-use json_doc::{Bytes, List, OutOfMemory, Text};
 use std::alloc::Global;
 use std::test::Fail;
+use texts::{Bytes, List, OutOfMemory, Text};
 
 /// 2015-08-30T12:36:00Z.
 const NOW: i64 = 1_440_938_160;
@@ -89,7 +89,7 @@ fn list_users(alloc: Global) -> Result<Message, OutOfMemory> {
 
 fn canonical(alloc: Global, message: &Message) -> Result<Text, OutOfMemory> {
     let query = sorted_query(alloc, message.query.as_slice())?;
-    let headers = SignedHeaders::of(alloc, message.headers.as_slice())?;
+    let headers = CanonicalHeaders::of(alloc, message.headers.as_slice())?;
     canonical_request(alloc, message, query.as_slice(), &headers)
 }
 

@@ -2,9 +2,9 @@ use Rattle.std.proofs.Common.{◌≡◌, ◌++◌, map, drop}
 use Rattle.std.specs.Prelude.{IsTrue, codes}
 use denote.Shadow.{shadow}
 use denote.Text.{Utf8}
-use Rattle.json_doc.specs.Ascii.{is_ascii_text}
+use Rattle.texts.specs.Ascii.{is_ascii_text}
 use Rattle.sigv4.specs.Joined.{behind}
-use Rattle.sigv4.specs.Parameters.{parameter, query_text, shown}
+use Rattle.sigv4.specs.Parameters.{parameter, canonical_query, shown}
 use Rattle.sigv4.proofs.parameters.push_query.Given as goal
 
 -- the parameters so far and those that are due are all of them
@@ -12,5 +12,5 @@ abbrev pub invariant-loop-name : goal.invariant-loop-name
 invariant-loop-name l = record {
   text : shadow (Utf8 l.before);
   plain : IsTrue (is_ascii_text l.before);
-  due : l.out ++ behind l.before (codes "&") (map parameter (map shown (drop l.name-index l.sorted))) ≡ l.fn.out ++ query_text (map shown l.sorted);
+  due : l.out ++ behind l.before (codes "&") (map parameter (map shown (drop l.name-index l.sorted))) ≡ l.fn.out ++ canonical_query (map shown l.sorted);
 }

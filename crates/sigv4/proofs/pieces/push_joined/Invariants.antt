@@ -2,7 +2,7 @@ use Rattle.std.proofs.Common.{◌≡◌, ◌++◌, drop}
 use Rattle.std.specs.Prelude.{IsTrue}
 use denote.Shadow.{shadow}
 use denote.Text.{Utf8}
-use Rattle.json_doc.specs.Ascii.{is_ascii_text}
+use Rattle.texts.specs.Ascii.{is_ascii_text}
 use Rattle.sigv4.specs.Joined.{behind, joined}
 use Rattle.sigv4.proofs.pieces.push_joined.Given as goal
 

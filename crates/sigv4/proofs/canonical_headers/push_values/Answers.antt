@@ -4,7 +4,7 @@ use Rattle.std.specs.Str.{chars}
 use Rattle.sigv4.specs.Joined.{behind}
 use Rattle.sigv4.specs.Headers.{values_of}
 use Rattle.sigv4.proofs.HeaderSteps.{one_more, value_here}
-use Rattle.sigv4.proofs.signed_headers.push_values.Goals as goal
+use Rattle.sigv4.proofs.canonical_headers.push_values.Goals as goal
 
 from_not : (b : Bool) → not b ≡ false → b ≡ true
 from_not true h = refl

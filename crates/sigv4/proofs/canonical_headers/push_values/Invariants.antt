@@ -2,10 +2,10 @@ use Rattle.std.proofs.Common.{◌≡◌, ◌++◌, drop}
 use Rattle.std.specs.Prelude.{IsTrue, codes}
 use denote.Shadow.{shadow}
 use denote.Text.{Utf8}
-use Rattle.json_doc.specs.Ascii.{is_ascii_text}
+use Rattle.texts.specs.Ascii.{is_ascii_text}
 use Rattle.sigv4.specs.Joined.{behind, joined}
 use Rattle.sigv4.specs.Headers.{values_of}
-use Rattle.sigv4.proofs.signed_headers.push_values.Given as goal
+use Rattle.sigv4.proofs.canonical_headers.push_values.Given as goal
 
 -- the values so far and those that are due are all of them
 abbrev pub invariant-loop-other : goal.invariant-loop-other

@@ -1,7 +1,7 @@
 use Rattle.std.proofs.Common.{◌++◌, ◌∷◌, [], take, sym, ap, ◌∙◌}
 use Rattle.std.proofs.lemmas.List.{take_more, take_all, map_push}
 use Rattle.sigv4.proofs.Listed.{listed_more}
-use Rattle.sigv4.proofs.header_names.names_of.Goals as goal
+use Rattle.sigv4.proofs.header_names.signed_names.Goals as goal
 
 pub loop-name-preserved : goal.loop-name-preserved
 loop-name-preserved c =
@@ -9,9 +9,10 @@ loop-name-preserved c =
     let headers = c.args.headers.now in
     let index = c.loop-name.name-index in
     let next = take_more headers index item c.loop-name-test.true ∙ ap (λ h. take index headers ++ h ∷ []) (sym c.loop-name-item.is) in
+    let added = rw c.in_ok-copy.ensures at c.in_ok-put_in_order.ensures.exact in
     record {
-      ascending = c.in_ok-put_name.ensures.ascending;
-      exact = λ other. rw (next, map_push (λ h. h.0) (take index headers) item) (listed_more _ _ _ _ c.loop-name.invariant.exact c.in_ok-put_name.ensures.exact other);
+      ascending = c.in_ok-put_in_order.ensures.ascending;
+      exact = λ other. rw (next, map_push (λ h. h.0) (take index headers) item) (listed_more _ _ _ _ c.loop-name.invariant.exact added other);
     }
 
 pub returns : goal.returns

@@ -1,7 +1,7 @@
 use Rattle.std.proofs.Common.{ℕ, List, map, take}
 use Rattle.std.specs.Prelude.{AllPairs, Contains, ◌↔◌}
-use Rattle.aws_world.specs.FileTree.{IsBefore}
-use Rattle.sigv4.proofs.header_names.names_of.Given as goal
+use Rattle.texts.specs.Order.{IsBefore}
+use Rattle.sigv4.proofs.header_names.signed_names.Given as goal
 
 -- the names of the headers so far
 abbrev pub invariant-loop-name : goal.invariant-loop-name

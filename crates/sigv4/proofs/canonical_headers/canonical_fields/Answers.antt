@@ -1,8 +1,8 @@
 use Rattle.std.proofs.Common.{◌≡◌, ◌+◌, ◌++◌, ◌∷◌, [], drop, refl, sym, ap, ◌∙◌, append_assoc}
 use Rattle.std.specs.Prelude.{codes, bytes_eq}
-use Rattle.sigv4.specs.Headers.{lowered, canonical_value, canonical_header, signed_headers}
+use Rattle.sigv4.specs.Headers.{lowered, canonical_value, canonical_header, canonical_headers}
 use Rattle.sigv4.proofs.HeaderSteps.{header_in, header_out}
-use Rattle.sigv4.proofs.signed_headers.signed_fields.Goals as goal
+use Rattle.sigv4.proofs.canonical_headers.canonical_fields.Goals as goal
 
 pub loop-name-preserved-then-is : goal.loop-name-preserved-then-is
 loop-name-preserved-then-is c =
@@ -19,7 +19,7 @@ loop-name-preserved c =
     let index = c.loop-name.name-index in
     let item = c.loop-name-item.result in
     let fields = c.loop-name.fields in
-    let rest = signed_headers (drop (index + 1) headers) in
+    let rest = canonical_headers (drop (index + 1) headers) in
     let lower : c.in_ok-lower.lower ≡ lowered item.0 = c.in_ok-lower.ensures ∙ ap lowered c.as_str.ensures.value in
     let value : c.in_ok-canonical_value.field-0 ≡ canonical_value item.1 = c.in_ok-canonical_value.ensures ∙ ap canonical_value c.as_str-in-loop-name.ensures.value in
     let other = ap (λ n. bytes_eq n (codes "authorization")) (sym lower) ∙ sym (c.is.ensures.ascii refl) ∙ c.if-is.false in

@@ -1,30 +1,30 @@
 ghost use Rattle.std.specs.Prelude.{◌≡◌, ◌++◌, IfOk, OnOk, codes};
-ghost use Rattle.sigv4.specs.Headers.{AreNames, signed_headers, values_of, header_line, header_lines};
+ghost use Rattle.sigv4.specs.Headers.{AreSignedNames, canonical_headers, values_of, header_line, header_lines};
 ghost use Rattle.sigv4.specs.Joined.{joined};
 
-use crate::header_names::names_of;
+use crate::header_names::signed_names;
 use crate::header_values::{canonical_value, lowered};
-use json_doc::{List, OutOfMemory, Text};
 use std::alloc::Global;
+use texts::{List, OutOfMemory, Text};
 
 /// The headers that are signed, as they are signed.
 #[derive(Drop)]
-pub struct SignedHeaders {
+pub struct CanonicalHeaders {
     /// Names in small letters with canonical values, in the message's order.
     pub fields: List<(Text, Text)>,
     /// Each name once, in order.
     pub names: List<Text>,
 }
 
-impl SignedHeaders {
+impl CanonicalHeaders {
     /// Those of a message.
-    pub fn of(alloc: Global, headers: &[(Text, Text)]) -> Result<SignedHeaders, OutOfMemory>
-        ensures fields { IfOk result (λ signed. signed.fields ≡ signed_headers headers.now) }
-        ensures names { IfOk result (λ signed. AreNames (signed_headers headers.now) signed.names) }
+    pub fn of(alloc: Global, headers: &[(Text, Text)]) -> Result<CanonicalHeaders, OutOfMemory>
+        ensures fields { IfOk result (λ signed. signed.fields ≡ canonical_headers headers.now) }
+        ensures names { IfOk result (λ signed. AreSignedNames (canonical_headers headers.now) signed.names) }
     {
-        let fields = signed_fields(alloc, headers)?;
-        let names = names_of(alloc, fields.as_slice())?;
-        Ok(SignedHeaders { fields, names })
+        let fields = canonical_fields(alloc, headers)?;
+        let names = signed_names(alloc, fields.as_slice())?;
+        Ok(CanonicalHeaders { fields, names })
     }
 
     /// Puts a line for each name.
@@ -39,8 +39,11 @@ impl SignedHeaders {
 }
 
 /// All headers but `Authorization`, with names in small letters and canonical values.
-fn signed_fields(alloc: Global, headers: &[(Text, Text)]) -> Result<List<(Text, Text)>, OutOfMemory>
-    ensures { IfOk result (λ fields. fields ≡ signed_headers headers.now) }
+fn canonical_fields(
+    alloc: Global,
+    headers: &[(Text, Text)],
+) -> Result<List<(Text, Text)>, OutOfMemory>
+    ensures { IfOk result (λ fields. fields ≡ canonical_headers headers.now) }
 {
     let mut fields = List::new(alloc);
     for (name, value) in headers {
