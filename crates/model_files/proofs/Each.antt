@@ -2,10 +2,11 @@
 use Rattle.std.proofs.Common.{◌≡◌, ℕ, ◌+◌, ◌<◌, ◌≤◌, List, [], ◌∷◌, ◌++◌, length, get_or, drop, Result, Ok, Err, refl, append-nil, sym, ap, ◌∙◌, append_assoc, subst}
 use Rattle.std.proofs.lemmas.List.{at_drop_more, at_drop_all}
 use Rattle.std.specs.Fmt.{decimal}
-use Rattle.json_doc.specs.declared.pairs.Pair.{Pair}
+use Rattle.texts.specs.declared.pairs.Pair.{Pair}
 use Rattle.model_files.specs.declared.fault.ModelFault.{ModelFault}
 use Rattle.model_files.specs.declared.fault.ModelFault.TheVariants.{Missing, UnknownShape, WrongKind, Collides, OutOfMemory}
-use Rattle.model_files.specs.Faults.{◌>>=◌, moved, inside, each, each_from, IsFault, Fails}
+use Rattle.model_files.specs.Faults.{moved, inside, each, each_from, IsFault, Fails, Gives}
+use Rattle.texts.specs.Calls.{◌>>=◌}
 
 -- what is read, behind what was read before
 abbrev pub with_front : {B : Type 0} → List B → Result (List B) ModelFault → Result (List B) ModelFault
@@ -55,6 +56,34 @@ is_due A (Missing p) due is = ap Err is
 is_due A (UnknownShape p) due is = ap Err is
 is_due A (WrongKind p) due is = ap Err is
 is_due A (Collides p) due is = ap Err is
+
+is_moved : (A : Type 0) (outer due : ModelFault) → Fails {A = A} outer (Err due) → IsFault outer due
+is_moved A OutOfMemory due fails = tt
+is_moved A (Missing p) due fails = cc
+is_moved A (UnknownShape p) due fails = cc
+is_moved A (WrongKind p) due fails = cc
+is_moved A (Collides p) due fails = cc
+
+no_fault : {A P : Type 0} (fault : ModelFault) (x : A) → Fails fault (Ok x) → (fault ≡ OutOfMemory → P) → P
+no_fault OutOfMemory x fails k = k refl
+no_fault (Missing p) x fails k = absurd (cc)
+no_fault (UnknownShape p) x fails k = absurd (cc)
+no_fault (WrongKind p) x fails k = absurd (cc)
+no_fault (Collides p) x fails k = absurd (cc)
+
+-- what stands at the key was read as is due, so it is as is due of the whole
+pub gives_inside : {T U : Type 0} (view : T → U) (key : List ℕ) (due : Result U ModelFault) (read result : Result T ModelFault)
+    → Gives view due read → Gives (λ x. x) (inside key read) result → Gives view (inside key due) result
+gives_inside view key due (Ok x) (Ok y) gives is = ap (inside key) gives ∙ ap (λ r. elim r [ Ok z ↦ Ok (view z) | Err f ↦ Err f ]) is
+gives_inside view key due (Ok x) (Err fault) gives is = no_fault fault x is (λ none. subst (λ f. Fails f (inside key due)) (sym none) tt)
+gives_inside view key due (Err inner) (Ok y) gives is = absurd (cc)
+gives_inside view key due (Err inner) (Err outer) gives is = fails_moved key inner outer due gives (is_moved _ outer (moved key inner) is)
+
+-- where what stands at the key was read well, it is what is due
+pub due_ok : {T U : Type 0} (view : T → U) (key : List ℕ) (due : Result U ModelFault) (read : Result T ModelFault) (y : T)
+    → Gives view due read → inside key read ≡ Ok y → due ≡ Ok (view y)
+due_ok view key due (Ok x) y gives is = let same : x ≡ y = cc in gives ∙ ap (λ z. Ok (view z)) same
+due_ok view key due (Err fault) y gives is = absurd (cc)
 
 -- the fault of a first step ends the steps
 pub fails_first : {A B : Type 0} (fault : ModelFault) (due : Result A ModelFault) (f : A → Result B ModelFault) → Fails fault due → Fails fault (due >>= f)

@@ -1,3 +1,5 @@
 pub mod Each
 pub mod Plurals
 pub mod Rows
+pub mod Steps
+pub mod WholeRows

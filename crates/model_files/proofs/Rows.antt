@@ -2,11 +2,12 @@
 use Rattle.std.proofs.Common.{◌≡◌, ℕ, ◌+◌, ◌<◌, ◌≤◌, List, [], ◌++◌, length, get_or, drop, Option, None, Some, Result, Ok, Err, refl, append-nil, sym, ap, ◌∙◌}
 use Rattle.std.proofs.lemmas.List.{at_drop_more, at_drop_all}
 use Rattle.json_doc.specs.declared.doc.Doc.{Doc}
-use Rattle.json_doc.specs.declared.pairs.Pair.{Pair}
+use Rattle.texts.specs.declared.pairs.Pair.{Pair}
 use Rattle.model_files.specs.declared.fault.ModelFault.{ModelFault}
 use Rattle.model_files.specs.declared.paginators.NamedRow.{NamedRow}
 use Rattle.model_files.specs.declared.paginators.PagerRow.{PagerRow}
-use Rattle.model_files.specs.Faults.{◌>>=◌, moved, inside, IsFault, Fails}
+use Rattle.model_files.specs.Faults.{moved, inside, IsFault, Fails}
+use Rattle.texts.specs.Calls.{◌>>=◌}
 use Rattle.model_files.specs.Paginators.{row_of, row_before, rows_of}
 use Rattle.model_files.proofs.Each.{with_front, one_more, fails_moved, fails_first, fails_in_front, fails_same}
 

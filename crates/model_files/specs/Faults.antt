@@ -2,19 +2,17 @@
 -- together from the inside out.
 use Rattle.std.specs.Prelude.{◌≡◌, ℕ, ◌+◌, Bool, true, false, List, [], ◌∷◌, ◌++◌, Option, None, Some, Result, Ok, Err}
 use Rattle.std.specs.Fmt.{decimal}
-use Rattle.json_doc.specs.declared.pairs.Pair.{Pair}
+use Rattle.texts.specs.declared.pairs.Pair.{Pair}
+use Rattle.texts.specs.Calls.{◌>>=◌}
 use Rattle.model_files.specs.declared.fault.ModelFault.{ModelFault}
 use Rattle.model_files.specs.declared.fault.ModelFault.TheVariants.{Missing, UnknownShape, WrongKind, Collides, OutOfMemory}
-
-infixl 10 ◌>>=◌
-abbrev pub ◌>>=◌ : {A B : Type 0} → Result A ModelFault → (A → Result B ModelFault) → Result B ModelFault
-Ok x >>= f = f x
-Err fault >>= f = Err fault
+use Rattle.model_files.specs.declared.fault.Place.{Place}
+use Rattle.model_files.specs.declared.fault.Place.TheVariants.{Whole, At}
 
 -- the place at this place below a key: a dot joins them
-abbrev pub below : List ℕ → List ℕ → List ℕ
-below key [] = key
-below key (c ∷ cs) = key ++ 46 ∷ (c ∷ cs)
+abbrev pub below : List ℕ → Place → Place
+below key Whole = At key
+below key (At text) = At (key ++ 46 ∷ text)
 
 -- a fault of what stands at the key, as a fault of the object that holds the key
 abbrev pub moved : List ℕ → ModelFault → ModelFault

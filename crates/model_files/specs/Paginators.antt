@@ -1,19 +1,21 @@
 -- The rows of a service's paginators: botocore's `paginators-1.json`.
-use Rattle.std.specs.Prelude.{ℕ, ◌==◌, List, [], ◌∷◌, if◌then◌else◌, length, Option, None, Some, Result, Ok, Err, bytes_eq, codes}
+use Rattle.std.specs.Prelude.{◌≡◌, ℕ, ◌<◌, ◌==◌, List, [], ◌∷◌, if◌then◌else◌, length, Option, None, Some, Result, Ok, Err, bytes_eq, codes}
 use Rattle.json_doc.specs.declared.doc.Doc.{Doc}
 use Rattle.json_doc.specs.declared.doc.Doc.TheOpen.{Doc-F}
 use Rattle.json_doc.specs.declared.doc.Doc.TheViews.{out-Doc}
-use Rattle.json_doc.specs.Keys.{value_at}
+use Rattle.texts.specs.Keys.{value_at}
 use Rattle.model_files.specs.declared.fault.ModelFault.{ModelFault}
 use Rattle.model_files.specs.declared.fault.ModelFault.TheVariants.{WrongKind}
+use Rattle.model_files.specs.declared.fault.Place.TheVariants.{Whole, At}
 use Rattle.model_files.specs.declared.paginators.PagerRow.{PagerRow}
 use Rattle.model_files.specs.declared.paginators.NamedRow.{NamedRow}
-use Rattle.model_files.specs.Faults.{◌>>=◌, inside, demand}
+use Rattle.model_files.specs.Faults.{inside, demand}
+use Rattle.texts.specs.Calls.{◌>>=◌}
 use Rattle.model_files.specs.Reading.{Fields, fields_of, object_at, needed, maybe_at, maybe_text, texts_of, texts_at}
 
 -- a list with at least one text
 abbrev pub some_of : List (List ℕ) → Result (List (List ℕ)) ModelFault
-some_of [] = Err (WrongKind [])
+some_of [] = Err (WrongKind Whole)
 some_of (text ∷ texts) = Ok (text ∷ texts)
 
 abbrev pub queries_in : Doc-F Doc → Doc → Result (List (List ℕ)) ModelFault
@@ -56,7 +58,7 @@ row_of doc = do
   fields ← fields_of doc
   inputs ← queries_at (codes "input_token") fields
   outputs ← queries_at (codes "output_token") fields
-  demand (length inputs == length outputs) (WrongKind (codes "output_token")) (row_with inputs outputs fields)
+  demand (length inputs == length outputs) (WrongKind (At (codes "output_token"))) (row_with inputs outputs fields)
 
 abbrev pub row_before : List ℕ → Option PagerRow → List NamedRow → List NamedRow
 row_before operation None others = others
@@ -76,6 +78,12 @@ paginators_of doc = do
   fields ← fields_of doc
   pairs ← object_at (codes "pagination") fields
   inside (codes "pagination") (rows_of pairs)
+
+-- a row has tokens, as many outputs as inputs, and results
+pub record IsPagerRow (row : PagerRow) : Type 0 where
+  pub inputs : 0 < length row.inputs
+  pub outputs : length row.outputs ≡ length row.inputs
+  pub results : 0 < length row.results
 
 -- the row of an operation
 abbrev pub row_named : List ℕ → List NamedRow → Option PagerRow

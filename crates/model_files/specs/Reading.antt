@@ -3,11 +3,13 @@ use Rattle.std.specs.Prelude.{ℕ, Bool, false, List, [], Option, None, Some, Re
 use Rattle.json_doc.specs.declared.doc.Doc.{Doc}
 use Rattle.json_doc.specs.declared.doc.Doc.TheOpen.{Doc-F}
 use Rattle.json_doc.specs.declared.doc.Doc.TheViews.{out-Doc}
-use Rattle.json_doc.specs.declared.pairs.Pair.{Pair}
-use Rattle.json_doc.specs.Keys.{value_at}
+use Rattle.texts.specs.declared.pairs.Pair.{Pair}
+use Rattle.texts.specs.Keys.{value_at}
 use Rattle.model_files.specs.declared.fault.ModelFault.{ModelFault}
 use Rattle.model_files.specs.declared.fault.ModelFault.TheVariants.{Missing, WrongKind}
-use Rattle.model_files.specs.Faults.{◌>>=◌, inside, or_fault, each_from}
+use Rattle.model_files.specs.declared.fault.Place.TheVariants.{Whole, At}
+use Rattle.model_files.specs.Faults.{inside, or_fault, each_from}
+use Rattle.texts.specs.Calls.{◌>>=◌}
 
 -- the members of an object
 abbrev pub Fields : Type 0
@@ -15,19 +17,19 @@ Fields = List (Pair Doc)
 
 abbrev pub fields_in : Doc-F Doc → Result Fields ModelFault
 fields_in (Doc-F.Fields ps) = Ok ps
-fields_in _ = Err (WrongKind [])
+fields_in _ = Err (WrongKind Whole)
 
 abbrev pub text_in : Doc-F Doc → Result (List ℕ) ModelFault
 text_in (Doc-F.Str t) = Ok t
-text_in _ = Err (WrongKind [])
+text_in _ = Err (WrongKind Whole)
 
 abbrev pub flag_in : Doc-F Doc → Result Bool ModelFault
 flag_in (Doc-F.Flag b) = Ok b
-flag_in _ = Err (WrongKind [])
+flag_in _ = Err (WrongKind Whole)
 
 abbrev pub items_in : Doc-F Doc → Result (List Doc) ModelFault
 items_in (Doc-F.Items ds) = Ok ds
-items_in _ = Err (WrongKind [])
+items_in _ = Err (WrongKind Whole)
 
 -- a document that is to be an object, a text, a flag, a list
 unfoldable pub fields_of : Doc → Result Fields ModelFault
@@ -44,7 +46,7 @@ items_of doc = items_in (out-Doc doc)
 
 -- what stands at a key that must be there
 unfoldable pub needed : List ℕ → Fields → Result Doc ModelFault
-needed key fields = or_fault (Missing key) (value_at key fields)
+needed key fields = or_fault (Missing (At key)) (value_at key fields)
 
 -- the object at a key
 unfoldable pub object_at : List ℕ → Fields → Result Fields ModelFault

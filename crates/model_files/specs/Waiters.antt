@@ -1,19 +1,21 @@
 -- The waiters of a service: botocore's `waiters-2.json`.
-use Rattle.std.specs.Prelude.{ℕ, Bool, true, false, not, ◌&&◌, nat_eq, nat_le, List, [], ◌∷◌, if◌then◌else◌, Option, None, Some, is_some, ◌||◌, Result, Ok, bytes_eq, codes}
+use Rattle.std.specs.Prelude.{ℕ, ◌≤◌, Bool, true, false, not, ◌&&◌, nat_eq, nat_le, List, [], ◌∷◌, if◌then◌else◌, Option, None, Some, is_some, ◌||◌, Result, Ok, bytes_eq, codes}
 use Rattle.json_doc.specs.declared.decimal.Decimal.{Decimal}
 use Rattle.json_doc.specs.declared.doc.Doc.{Doc}
 use Rattle.json_doc.specs.declared.doc.Doc.TheOpen.{Doc-F}
 use Rattle.json_doc.specs.declared.doc.Doc.TheViews.{out-Doc}
-use Rattle.json_doc.specs.declared.pairs.Pair.{Pair}
+use Rattle.texts.specs.declared.pairs.Pair.{Pair}
 use Rattle.model_files.specs.declared.fault.ModelFault.{ModelFault}
 use Rattle.model_files.specs.declared.fault.ModelFault.TheVariants.{Missing, WrongKind}
+use Rattle.model_files.specs.declared.fault.Place.TheVariants.{At}
 use Rattle.model_files.specs.declared.waiters.State.{State}
 use Rattle.model_files.specs.declared.waiters.State.TheVariants as state
 use Rattle.model_files.specs.declared.waiters.Matcher.{Matcher}
 use Rattle.model_files.specs.declared.waiters.Matcher.TheVariants.{Path, PathAll, PathAny, Status, Error}
 use Rattle.model_files.specs.declared.waiters.Acceptor.{Acceptor}
 use Rattle.model_files.specs.declared.waiters.WaiterRow.{WaiterRow}
-use Rattle.model_files.specs.Faults.{◌>>=◌, inside, or_fault, demand, each, each_from}
+use Rattle.model_files.specs.Faults.{inside, or_fault, demand, each, each_from}
+use Rattle.texts.specs.Calls.{◌>>=◌}
 use Rattle.model_files.specs.Names.{command_name}
 use Rattle.model_files.specs.Reading.{Fields, fields_of, object_at, text_at, items_at, needed, maybe_text}
 
@@ -35,7 +37,7 @@ whole_between least most doc = whole_in least most (out-Doc doc)
 unfoldable pub number_at : List ℕ → ℕ → ℕ → Fields → Result ℕ ModelFault
 number_at key least most fields = do
   doc ← needed key fields
-  or_fault (WrongKind key) (whole_between least most doc)
+  or_fault (WrongKind (At key)) (whole_between least most doc)
 
 abbrev pub state_named : List ℕ → Option State
 state_named t =
@@ -46,7 +48,7 @@ state_named t =
 unfoldable pub state_of : Fields → Result State ModelFault
 state_of fields = do
   name ← text_at (codes "state") fields
-  or_fault (WrongKind (codes "state")) (state_named name)
+  or_fault (WrongKind (At (codes "state"))) (state_named name)
 
 abbrev pub matcher_named : List ℕ → Option Matcher
 matcher_named t =
@@ -59,7 +61,7 @@ matcher_named t =
 unfoldable pub matcher_of : Fields → Result Matcher ModelFault
 matcher_of fields = do
   name ← text_at (codes "matcher") fields
-  or_fault (WrongKind (codes "matcher")) (matcher_named name)
+  or_fault (WrongKind (At (codes "matcher"))) (matcher_named name)
 
 -- the matchers of paths need a query
 abbrev pub needs_query : Matcher → Bool
@@ -72,7 +74,7 @@ needs_query Error = false
 unfoldable pub argument_of : Matcher → Fields → Result (Option (List ℕ)) ModelFault
 argument_of matcher fields = do
   argument ← maybe_text (codes "argument") fields
-  demand (is_some argument || not (needs_query matcher)) (Missing (codes "argument")) (Ok argument)
+  demand (is_some argument || not (needs_query matcher)) (Missing (At (codes "argument"))) (Ok argument)
 
 unfoldable pub acceptor_of : Doc → Result Acceptor ModelFault
 acceptor_of doc = do
@@ -111,6 +113,12 @@ waiters_of doc = do
   fields ← fields_of doc
   pairs ← object_at (codes "waiters") fields
   inside (codes "waiters") (each row_of pairs)
+
+-- a waiter's delay and its number of calls are in their limits
+pub record IsWaiterRow (row : WaiterRow) : Type 0 where
+  pub delay : row.delay ≤ 86400
+  pub least_tries : 1 ≤ row.tries
+  pub most_tries : row.tries ≤ 100000
 
 -- the first waiter with a command name
 abbrev pub row_named : List ℕ → List WaiterRow → Option WaiterRow

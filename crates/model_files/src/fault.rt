@@ -1,27 +1,59 @@
 ghost use Rattle.std.specs.Prelude.{◌≡◌, IsTrue, IfOk, Some};
 ghost use Rattle.std.specs.Str.{chars};
-ghost use Rattle.json_doc.specs.Ascii.{is_ascii_text};
+ghost use Rattle.texts.specs.Ascii.{is_ascii_text};
 ghost use Rattle.model_files.specs.declared.fault.ModelFault.TheVariants as fault;
-ghost use Rattle.model_files.specs.Faults.{below, moved, IsFault};
-ghost use Rattle.model_files.specs.FaultText.{fault_text};
+ghost use Rattle.model_files.specs.Faults.{below, moved, inside, IsFault, Gives};
+ghost use Rattle.model_files.specs.FaultText.{place_text, place_bytes, fault_text};
 
 use json_doc::{OutOfMemory, Text};
 use std::alloc::{AllocError, AllocFailed, Global};
 use std::error::Error;
 use std::fmt;
 
-/// The first fault of a model file. The text is its place: the keys and positions that lead to it,
-/// joined by dots.
+/// Where in a file a fault is.
+#[derive(Debug, Drop)]
+pub enum Place {
+    /// The whole document.
+    Whole,
+    /// The keys and positions that lead there, joined by dots. An empty key counts.
+    At(Text),
+}
+
+impl Place {
+    /// The keys and positions that lead there, joined by dots: nothing for the whole document. It
+    /// takes no memory.
+    pub fn text(self, alloc: Global) -> Text
+        ensures { result ≡ place_text self }
+    {
+        match self {
+            Place::Whole => Text::new(alloc),
+            Place::At(text) => text,
+        }
+    }
+}
+
+impl fmt::Display for Place {
+    ghost output = { λ place. Some (place_bytes place) };
+
+    fn fmt<W: fmt::Write>(&self, f: &mut fmt::Formatter<W>) -> fmt::Result {
+        match self {
+            Place::Whole => f.write_str(""),
+            Place::At(text) => write!(f, "{text}"),
+        }
+    }
+}
+
+/// The first fault of a model file, with its place.
 #[derive(Debug, Drop)]
 pub enum ModelFault {
     /// A needed key isn't there.
-    Missing(Text),
+    Missing(Place),
     /// A shape is named that the model lacks.
-    UnknownShape(Text),
+    UnknownShape(Place),
     /// A value is of another kind, or none of the choices.
-    WrongKind(Text),
+    WrongKind(Place),
     /// An earlier operation has the same command name.
-    Collides(Text),
+    Collides(Place),
     OutOfMemory,
 }
 
@@ -65,8 +97,20 @@ impl<T: Drop> From<AllocFailed<T>> for ModelFault {
     }
 }
 
+/// What is read from what stands at the key, with its fault as one of the object that holds the
+/// key.
+pub fn inside<T>(alloc: Global, key: &str, read: Result<T, ModelFault>) -> Result<T, ModelFault>
+    ensures value { Gives (λ x. x) (inside (chars key.now) read) result }
+    ensures ascii { IsTrue (is_ascii_text key.now) → Gives (λ x. x) (inside key.now read) result }
+{
+    match read {
+        Ok(value) => Ok(value),
+        Err(fault) => Err(move_below(alloc, key, fault)),
+    }
+}
+
 /// A fault of what stands at the key, as a fault of the object that holds the key.
-#[tactic(auto, using(json_doc::proofs::Texts::chars_ascii))]
+#[tactic(auto, using(texts::proofs::Texts::chars_ascii))]
 pub fn move_below(alloc: Global, key: &str, fault: ModelFault) -> ModelFault
     ensures value { IsFault result (moved (chars key.now) fault) }
     ensures ascii { IsTrue (is_ascii_text key.now) → IsFault result (moved key.now fault) }
@@ -93,16 +137,16 @@ pub fn move_below(alloc: Global, key: &str, fault: ModelFault) -> ModelFault
 }
 
 /// The place at this place below the key.
-#[tactic(auto, using(json_doc::proofs::Texts::chars_ascii))]
-fn place_below(alloc: Global, key: &str, place: &Text) -> Result<Text, OutOfMemory>
+#[tactic(auto, using(texts::proofs::Texts::chars_ascii))]
+fn place_below(alloc: Global, key: &str, place: &Place) -> Result<Place, OutOfMemory>
     ensures value { IfOk result (λ made. made ≡ below (chars key.now) place.now) }
     ensures ascii { IsTrue (is_ascii_text key.now) → IfOk result (λ made. made ≡ below key.now place.now) }
 {
     let mut below = Text::from_str(alloc, key)?;
-    if place.is_empty() {
-        return Ok(below);
-    }
+    let Place::At(text) = place else {
+        return Ok(Place::At(below));
+    };
     below.push_ascii(".")?;
-    below.push_str(place.as_str())?;
-    Ok(below)
+    below.push_str(text.as_str())?;
+    Ok(Place::At(below))
 }

@@ -11,7 +11,7 @@ mod reading;
 mod waiters;
 
 pub use characters::{chars_of, text_of};
-pub use fault::{ModelFault, move_below};
+pub use fault::{ModelFault, Place, inside, move_below};
 pub use names::command_name;
 pub use paginators::{PagerRow, Paginators};
 pub use reading::{
@@ -19,6 +19,3 @@ pub use reading::{
     missing_below, move_to, needed, object, object_at, text, text_at, wrong, wrong_kind,
 };
 pub use waiters::{Acceptor, Matcher, State, WaiterRow, Waiters};
-
-#[cfg(test)]
-mod tests;

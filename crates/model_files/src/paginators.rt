@@ -1,12 +1,12 @@
-ghost use Rattle.std.specs.Prelude.{◌≡◌, ◌==◌, ◌++◌, [], length, IsTrue, OnOk};
+ghost use Rattle.std.specs.Prelude.{◌≡◌, ◌==◌, ◌++◌, [], length, IfSome, IsTrue, OnOk};
 ghost use Rattle.std.specs.Option.{option_copied};
 ghost use Rattle.std.specs.Str.{chars};
-ghost use Rattle.json_doc.specs.Ascii.{is_ascii_text};
+ghost use Rattle.texts.specs.Ascii.{is_ascii_text};
 ghost use Rattle.model_files.specs.Faults.{Gives};
-ghost use Rattle.model_files.specs.Paginators.{queries_of, queries_at, maybe_queries, row_with, row_of, row_before, rows_of, paginators_of, row_named};
+ghost use Rattle.model_files.specs.Paginators.{queries_of, queries_at, maybe_queries, row_with, row_of, row_before, IsPagerRow, rows_of, paginators_of, row_named};
 
 use crate::ModelFault;
-use crate::fault::move_below;
+use crate::fault::inside;
 use crate::reading::{
     copied, maybe_text, needed, object, object_at, texts, texts_at, wrong, wrong_kind,
 };
@@ -51,31 +51,36 @@ impl Model for Paginators {
     ghost Value = { Seq Named };
 
     ghost view = { λ paginators. paginators.rows };
+
+    ghost use Rattle.std.specs.List.{All};
+    ghost use Rattle.model_files.specs.Paginators.{IsPagerRow};
+
+    ghost invariant = { λ paginators. All (λ named. IsPagerRow named.row) paginators.rows };
 }
 
 impl Paginators {
     /// Reads the rows from their document.
-    #[tactic(auto, unfolding(crate::specs::Paginators::paginators_of))]
+    #[tactic(auto, using(crate::proofs::Each::gives_inside), unfolding(crate::specs::Paginators::paginators_of))]
     pub fn read(alloc: Global, doc: &Doc) -> Result<Paginators, ModelFault>
         ensures { Gives (λ rows. rows) (paginators_of doc.now) result }
     {
-        let fields = object(alloc, doc)?;
+        let fields = object(doc)?;
         let pairs = object_at(alloc, fields, "pagination")?;
-        match read_rows(alloc, pairs) {
-            Ok(rows) => Ok(Paginators { rows }),
-            Err(fault) => Err(move_below(alloc, "pagination", fault)),
-        }
+        let rows = inside(alloc, "pagination", read_rows(alloc, pairs))?;
+        Ok(Paginators { rows })
     }
 
     /// The row of the operation with this name in its model.
     pub fn row(&self, op: &Text) -> Option<&PagerRow>
-        ensures { option_copied result ≡ row_named op.now self.now }
+        ensures first { option_copied result ≡ row_named op.now self.now }
+        ensures whole { IfSome result (λ row. IsPagerRow row.now) }
     {
         self.find(op.as_str())
     }
 
     fn find(&self, operation: &str) -> Option<&PagerRow>
-        ensures { option_copied result ≡ row_named (chars operation.now) self.now }
+        ensures first { option_copied result ≡ row_named (chars operation.now) self.now }
+        ensures whole { IfSome result (λ row. IsPagerRow row.now) }
     {
         for named in self.rows.as_slice() {
             if named.operation.is(operation) {
@@ -91,10 +96,8 @@ fn read_rows(alloc: Global, pairs: &Pairs<Doc>) -> Result<List<NamedRow>, ModelF
 {
     let mut rows = List::new(alloc);
     for pair in pairs.as_slice() {
-        match read_row(alloc, &pair.value) {
-            Ok(row) => push_row(alloc, &mut rows, &pair.key, row)?,
-            Err(fault) => return Err(move_below(alloc, pair.key.as_str(), fault)),
-        }
+        let row = inside(alloc, pair.key.as_str(), read_row(alloc, &pair.value))?;
+        push_row(alloc, &mut rows, &pair.key, row)?;
     }
     Ok(rows)
 }
@@ -122,7 +125,7 @@ fn push_row(
 fn read_row(alloc: Global, doc: &Doc) -> Result<Option<PagerRow>, ModelFault>
     ensures { Gives (λ row. row) (row_of doc.now) result }
 {
-    let fields = object(alloc, doc)?;
+    let fields = object(doc)?;
     let inputs = read_queries(alloc, fields, "input_token")?;
     let outputs = read_queries(alloc, fields, "output_token")?;
     if !are_as_many(&inputs, &outputs) {
@@ -165,20 +168,17 @@ fn row_with(
 }
 
 /// The text or texts at a key.
-#[tactic(auto, unfolding(crate::specs::Paginators::queries_at))]
+#[tactic(auto, using(crate::proofs::Each::gives_inside), unfolding(crate::specs::Paginators::queries_at))]
 fn read_queries(alloc: Global, fields: &Pairs<Doc>, key: &str) -> Result<List<Text>, ModelFault>
     requires { IsTrue (is_ascii_text key.now) }
     ensures { Gives (λ texts. texts) (queries_at key.now fields.now) result }
 {
     let doc = needed(alloc, fields, key)?;
-    match queries(alloc, doc) {
-        Ok(texts) => Ok(texts),
-        Err(fault) => Err(move_below(alloc, key, fault)),
-    }
+    inside(alloc, key, queries(alloc, doc))
 }
 
 /// The text or texts at a key, where something stands there.
-#[tactic(auto, unfolding(crate::specs::Paginators::maybe_queries))]
+#[tactic(auto, using(crate::proofs::Each::gives_inside), unfolding(crate::specs::Paginators::maybe_queries))]
 fn maybe_queries(
     alloc: Global,
     fields: &Pairs<Doc>,
@@ -190,10 +190,7 @@ fn maybe_queries(
     let Some(doc) = fields.get(key) else {
         return Ok(None);
     };
-    match queries(alloc, doc) {
-        Ok(texts) => Ok(Some(texts)),
-        Err(fault) => Err(move_below(alloc, key, fault)),
-    }
+    Ok(Some(inside(alloc, key, queries(alloc, doc))?))
 }
 
 /// A text, or a list of texts with at least one.
@@ -208,7 +205,7 @@ fn queries(alloc: Global, doc: &Doc) -> Result<List<Text>, ModelFault>
     }
     let texts = texts(alloc, doc)?;
     if texts.is_empty() {
-        return Err(wrong_kind(alloc));
+        return Err(wrong_kind());
     }
     Ok(texts)
 }

@@ -2,71 +2,72 @@
 ghost use Rattle.std.specs.Prelude.{◌≡◌, [], IsTrue, IfOk};
 ghost use Rattle.std.specs.Fmt.{decimal};
 ghost use Rattle.std.specs.Option.{option_copied};
-ghost use Rattle.json_doc.specs.Ascii.{is_ascii_text};
+ghost use Rattle.texts.specs.Ascii.{is_ascii_text};
 ghost use Rattle.model_files.specs.declared.fault.ModelFault.TheVariants as fault;
+ghost use Rattle.model_files.specs.declared.fault.Place.TheVariants as place;
 ghost use Rattle.model_files.specs.Faults.{below, moved, each_from, IsFault, Gives};
 ghost use Rattle.model_files.specs.Reading.{fields_of, text_of, flag_of, items_of, needed, object_at, text_at, items_at, maybe_text, maybe_object, flag_at, texts_of, texts_at, maybe_texts, is_true_at};
 
-use crate::ModelFault;
-use crate::fault::move_below;
+use crate::fault::{inside, move_below};
+use crate::{ModelFault, Place};
 use json_doc::{Doc, List, OutOfMemory, Pairs, Text};
 use std::alloc::Global;
 
 /// The fault of a value of another kind.
-pub fn wrong_kind(alloc: Global) -> ModelFault
-    ensures { result ≡ fault.WrongKind [] }
+pub fn wrong_kind() -> ModelFault
+    ensures { result ≡ fault.WrongKind place.Whole }
 {
-    ModelFault::WrongKind(Text::new(alloc))
+    ModelFault::WrongKind(Place::Whole)
 }
 
 /// The members of a document that is to be an object.
 #[tactic(auto, unfolding(crate::specs::Reading::fields_of))]
-pub fn object(alloc: Global, doc: &Doc) -> Result<&Pairs<Doc>, ModelFault>
+pub fn object(doc: &Doc) -> Result<&Pairs<Doc>, ModelFault>
     ensures { Gives (λ pairs. pairs.now) (fields_of doc.now) result }
 {
     match doc {
         Doc::Fields(pairs) => Ok(pairs),
-        _ => Err(wrong_kind(alloc)),
+        _ => Err(wrong_kind()),
     }
 }
 
 #[tactic(auto, unfolding(crate::specs::Reading::text_of))]
-pub fn text(alloc: Global, doc: &Doc) -> Result<&Text, ModelFault>
+pub fn text(doc: &Doc) -> Result<&Text, ModelFault>
     ensures { Gives (λ text. text.now) (text_of doc.now) result }
 {
     match doc {
         Doc::Str(text) => Ok(text),
-        _ => Err(wrong_kind(alloc)),
+        _ => Err(wrong_kind()),
     }
 }
 
 #[tactic(auto, unfolding(crate::specs::Reading::flag_of))]
-pub fn flag(alloc: Global, doc: &Doc) -> Result<bool, ModelFault>
+pub fn flag(doc: &Doc) -> Result<bool, ModelFault>
     ensures { Gives (λ flag. flag) (flag_of doc.now) result }
 {
     match doc {
         Doc::Flag(flag) => Ok(*flag),
-        _ => Err(wrong_kind(alloc)),
+        _ => Err(wrong_kind()),
     }
 }
 
 #[tactic(auto, unfolding(crate::specs::Reading::items_of))]
-pub fn items(alloc: Global, doc: &Doc) -> Result<&List<Doc>, ModelFault>
+pub fn items(doc: &Doc) -> Result<&List<Doc>, ModelFault>
     ensures { Gives (λ items. items.now) (items_of doc.now) result }
 {
     match doc {
         Doc::Items(items) => Ok(items),
-        _ => Err(wrong_kind(alloc)),
+        _ => Err(wrong_kind()),
     }
 }
 
 /// The fault of a needed key that isn't there.
 pub fn missing(alloc: Global, key: &str) -> ModelFault
     requires { IsTrue (is_ascii_text key.now) }
-    ensures { IsFault result (fault.Missing key.now) }
+    ensures { IsFault result (fault.Missing (place.At key.now)) }
 {
     match ascii_text(alloc, key) {
-        Ok(place) => ModelFault::Missing(place),
+        Ok(key) => ModelFault::Missing(Place::At(key)),
         Err(_) => ModelFault::OutOfMemory,
     }
 }
@@ -74,10 +75,10 @@ pub fn missing(alloc: Global, key: &str) -> ModelFault
 /// The fault of a value at a key that is none of its choices.
 pub fn wrong(alloc: Global, key: &str) -> ModelFault
     requires { IsTrue (is_ascii_text key.now) }
-    ensures { IsFault result (fault.WrongKind key.now) }
+    ensures { IsFault result (fault.WrongKind (place.At key.now)) }
 {
     match ascii_text(alloc, key) {
-        Ok(place) => ModelFault::WrongKind(place),
+        Ok(key) => ModelFault::WrongKind(Place::At(key)),
         Err(_) => ModelFault::OutOfMemory,
     }
 }
@@ -105,7 +106,7 @@ pub fn needed<'a>(alloc: Global, fields: &'a Pairs<Doc>, key: &str) -> Result<&'
 }
 
 /// The object at a key.
-#[tactic(auto, unfolding(crate::specs::Reading::object_at))]
+#[tactic(auto, using(crate::proofs::Each::gives_inside), unfolding(crate::specs::Reading::object_at))]
 pub fn object_at<'a>(
     alloc: Global,
     fields: &'a Pairs<Doc>,
@@ -115,27 +116,21 @@ pub fn object_at<'a>(
     ensures { Gives (λ pairs. pairs.now) (object_at key.now fields.now) result }
 {
     let doc = needed(alloc, fields, key)?;
-    match object(alloc, doc) {
-        Ok(pairs) => Ok(pairs),
-        Err(fault) => Err(move_below(alloc, key, fault)),
-    }
+    inside(alloc, key, object(doc))
 }
 
 /// The text at a key.
-#[tactic(auto, unfolding(crate::specs::Reading::text_at))]
+#[tactic(auto, using(crate::proofs::Each::gives_inside), unfolding(crate::specs::Reading::text_at))]
 pub fn text_at<'a>(alloc: Global, fields: &'a Pairs<Doc>, key: &str) -> Result<&'a Text, ModelFault>
     requires { IsTrue (is_ascii_text key.now) }
     ensures { Gives (λ text. text.now) (text_at key.now fields.now) result }
 {
     let doc = needed(alloc, fields, key)?;
-    match text(alloc, doc) {
-        Ok(text) => Ok(text),
-        Err(fault) => Err(move_below(alloc, key, fault)),
-    }
+    inside(alloc, key, text(doc))
 }
 
 /// The list at a key.
-#[tactic(auto, unfolding(crate::specs::Reading::items_at))]
+#[tactic(auto, using(crate::proofs::Each::gives_inside), unfolding(crate::specs::Reading::items_at))]
 pub fn items_at<'a>(
     alloc: Global,
     fields: &'a Pairs<Doc>,
@@ -145,14 +140,11 @@ pub fn items_at<'a>(
     ensures { Gives (λ items. items.now) (items_at key.now fields.now) result }
 {
     let doc = needed(alloc, fields, key)?;
-    match items(alloc, doc) {
-        Ok(items) => Ok(items),
-        Err(fault) => Err(move_below(alloc, key, fault)),
-    }
+    inside(alloc, key, items(doc))
 }
 
 /// The text at a key, where there is one.
-#[tactic(auto, unfolding(crate::specs::Reading::maybe_text))]
+#[tactic(auto, using(crate::proofs::Each::gives_inside), unfolding(crate::specs::Reading::maybe_text))]
 pub fn maybe_text<'a>(
     alloc: Global,
     fields: &'a Pairs<Doc>,
@@ -164,14 +156,11 @@ pub fn maybe_text<'a>(
     let Some(doc) = fields.get(key) else {
         return Ok(None);
     };
-    match text(alloc, doc) {
-        Ok(text) => Ok(Some(text)),
-        Err(fault) => Err(move_below(alloc, key, fault)),
-    }
+    Ok(Some(inside(alloc, key, text(doc))?))
 }
 
 /// The object at a key, where there is one.
-#[tactic(auto, unfolding(crate::specs::Reading::maybe_object))]
+#[tactic(auto, using(crate::proofs::Each::gives_inside), unfolding(crate::specs::Reading::maybe_object))]
 pub fn maybe_object<'a>(
     alloc: Global,
     fields: &'a Pairs<Doc>,
@@ -183,14 +172,11 @@ pub fn maybe_object<'a>(
     let Some(doc) = fields.get(key) else {
         return Ok(None);
     };
-    match object(alloc, doc) {
-        Ok(pairs) => Ok(Some(pairs)),
-        Err(fault) => Err(move_below(alloc, key, fault)),
-    }
+    Ok(Some(inside(alloc, key, object(doc))?))
 }
 
 /// The flag at a key: false where nothing stands there.
-#[tactic(auto, unfolding(crate::specs::Reading::flag_at))]
+#[tactic(auto, using(crate::proofs::Each::gives_inside), unfolding(crate::specs::Reading::flag_at))]
 pub fn flag_at(alloc: Global, fields: &Pairs<Doc>, key: &str) -> Result<bool, ModelFault>
     requires { IsTrue (is_ascii_text key.now) }
     ensures { Gives (λ flag. flag) (flag_at key.now fields.now) result }
@@ -198,14 +184,11 @@ pub fn flag_at(alloc: Global, fields: &Pairs<Doc>, key: &str) -> Result<bool, Mo
     let Some(doc) = fields.get(key) else {
         return Ok(false);
     };
-    match flag(alloc, doc) {
-        Ok(flag) => Ok(flag),
-        Err(fault) => Err(move_below(alloc, key, fault)),
-    }
+    inside(alloc, key, flag(doc))
 }
 
 /// The texts of the list at a key: none where nothing stands there.
-#[tactic(auto, unfolding(crate::specs::Reading::texts_at))]
+#[tactic(auto, using(crate::proofs::Each::gives_inside), unfolding(crate::specs::Reading::texts_at))]
 pub fn texts_at(alloc: Global, fields: &Pairs<Doc>, key: &str) -> Result<List<Text>, ModelFault>
     requires { IsTrue (is_ascii_text key.now) }
     ensures { Gives (λ texts. texts) (texts_at key.now fields.now) result }
@@ -213,14 +196,11 @@ pub fn texts_at(alloc: Global, fields: &Pairs<Doc>, key: &str) -> Result<List<Te
     let Some(doc) = fields.get(key) else {
         return Ok(List::new(alloc));
     };
-    match texts(alloc, doc) {
-        Ok(texts) => Ok(texts),
-        Err(fault) => Err(move_below(alloc, key, fault)),
-    }
+    inside(alloc, key, texts(alloc, doc))
 }
 
 /// The texts of the list at a key, where something stands there.
-#[tactic(auto, unfolding(crate::specs::Reading::maybe_texts))]
+#[tactic(auto, using(crate::proofs::Each::gives_inside), unfolding(crate::specs::Reading::maybe_texts))]
 pub fn maybe_texts(
     alloc: Global,
     fields: &Pairs<Doc>,
@@ -232,10 +212,7 @@ pub fn maybe_texts(
     let Some(doc) = fields.get(key) else {
         return Ok(None);
     };
-    match texts(alloc, doc) {
-        Ok(texts) => Ok(Some(texts)),
-        Err(fault) => Err(move_below(alloc, key, fault)),
-    }
+    Ok(Some(inside(alloc, key, texts(alloc, doc))?))
 }
 
 /// A list of texts.
@@ -243,7 +220,7 @@ pub fn maybe_texts(
 pub fn texts(alloc: Global, doc: &Doc) -> Result<List<Text>, ModelFault>
     ensures { Gives (λ texts. texts) (texts_of doc.now) result }
 {
-    let items = items(alloc, doc)?;
+    let items = items(doc)?;
     copied_texts(alloc, items.as_slice())
 }
 
@@ -252,7 +229,7 @@ fn copied_texts(alloc: Global, items: &[Doc]) -> Result<List<Text>, ModelFault>
 {
     let mut texts = List::new(alloc);
     for (at, item) in items.iter().enumerate() {
-        match text(alloc, item) {
+        match text(item) {
             Ok(text) => texts.push(text.copy(alloc)?)?,
             Err(fault) => return Err(move_to(alloc, at, fault)),
         }
@@ -294,7 +271,7 @@ pub fn is_true_at(fields: &Pairs<Doc>, key: &str) -> bool
 pub fn missing_below(alloc: Global, object: &str, key: &str) -> ModelFault
     requires object { IsTrue (is_ascii_text object.now) }
     requires key { IsTrue (is_ascii_text key.now) }
-    ensures { IsFault result (fault.Missing (below object.now key.now)) }
+    ensures { IsFault result (fault.Missing (below object.now (place.At key.now))) }
 {
     move_below(alloc, object, missing(alloc, key))
 }

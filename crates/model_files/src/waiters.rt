@@ -1,12 +1,12 @@
-ghost use Rattle.std.specs.Prelude.{◌≡◌, IsTrue};
+ghost use Rattle.std.specs.Prelude.{◌≡◌, IfSome, IsTrue};
 ghost use Rattle.std.specs.Option.{option_copied};
 ghost use Rattle.std.specs.Str.{chars};
-ghost use Rattle.json_doc.specs.Ascii.{is_ascii_text};
+ghost use Rattle.texts.specs.Ascii.{is_ascii_text};
 ghost use Rattle.model_files.specs.Faults.{each, each_from, Gives};
-ghost use Rattle.model_files.specs.Waiters.{whole_number, whole_between, number_at, state_named, state_of, matcher_named, matcher_of, needs_query, argument_of, delay_of, tries_of, acceptor_of, acceptors_of, row_of, waiters_of, row_named};
+ghost use Rattle.model_files.specs.Waiters.{whole_number, whole_between, number_at, state_named, state_of, matcher_named, matcher_of, needs_query, argument_of, delay_of, tries_of, acceptor_of, acceptors_of, row_of, waiters_of, IsWaiterRow, row_named};
 
 use crate::ModelFault;
-use crate::fault::move_below;
+use crate::fault::inside;
 use crate::names::command_name;
 use crate::reading::{
     copied, items_at, maybe_text, missing, move_to, needed, object, object_at, text_at, wrong,
@@ -80,31 +80,36 @@ impl Model for Waiters {
     ghost coded = { Prim.hlevel (codes, doc.the_row.coded) };
 
     ghost view = { λ waiters. waiters.rows };
+
+    ghost use Rattle.std.specs.List.{All};
+    ghost use Rattle.model_files.specs.Waiters.{IsWaiterRow};
+
+    ghost invariant = { λ waiters. All IsWaiterRow waiters.rows };
 }
 
 impl Waiters {
     /// Reads the waiters from their document.
-    #[tactic(auto, unfolding(crate::specs::Waiters::waiters_of))]
+    #[tactic(auto, using(crate::proofs::Each::gives_inside), unfolding(crate::specs::Waiters::waiters_of))]
     pub fn read(alloc: Global, doc: &Doc) -> Result<Waiters, ModelFault>
         ensures { Gives (λ rows. rows) (waiters_of doc.now) result }
     {
-        let fields = object(alloc, doc)?;
+        let fields = object(doc)?;
         let pairs = object_at(alloc, fields, "waiters")?;
-        match read_rows(alloc, pairs) {
-            Ok(rows) => Ok(Waiters { rows }),
-            Err(fault) => Err(move_below(alloc, "waiters", fault)),
-        }
+        let rows = inside(alloc, "waiters", read_rows(alloc, pairs))?;
+        Ok(Waiters { rows })
     }
 
     /// The first waiter with a command name.
     pub fn row(&self, command: &Text) -> Option<&WaiterRow>
-        ensures { option_copied result ≡ row_named command.now self.now }
+        ensures first { option_copied result ≡ row_named command.now self.now }
+        ensures limits { IfSome result (λ row. IsWaiterRow row.now) }
     {
         self.find(command.as_str())
     }
 
     fn find(&self, command: &str) -> Option<&WaiterRow>
-        ensures { option_copied result ≡ row_named (chars command.now) self.now }
+        ensures first { option_copied result ≡ row_named (chars command.now) self.now }
+        ensures limits { IfSome result (λ row. IsWaiterRow row.now) }
     {
         for row in self.rows.as_slice() {
             if row.command.is(command) {
@@ -120,10 +125,8 @@ fn read_rows(alloc: Global, pairs: &Pairs<Doc>) -> Result<List<WaiterRow>, Model
 {
     let mut rows = List::new(alloc);
     for pair in pairs.as_slice() {
-        match read_row(alloc, pair) {
-            Ok(row) => rows.push(row)?,
-            Err(fault) => return Err(move_below(alloc, pair.key.as_str(), fault)),
-        }
+        let row = inside(alloc, pair.key.as_str(), read_row(alloc, pair))?;
+        rows.push(row)?;
     }
     Ok(rows)
 }
@@ -132,7 +135,7 @@ fn read_rows(alloc: Global, pairs: &Pairs<Doc>) -> Result<List<WaiterRow>, Model
 fn read_row(alloc: Global, pair: &Pair<Doc>) -> Result<WaiterRow, ModelFault>
     ensures { Gives (λ row. row) (row_of pair.now) result }
 {
-    let fields = object(alloc, &pair.value)?;
+    let fields = object(&pair.value)?;
     let operation = text_at(alloc, fields, "operation")?;
     let delay = read_delay(alloc, fields)?;
     let tries = read_tries(alloc, fields)?;
@@ -161,15 +164,12 @@ fn read_tries(alloc: Global, fields: &Pairs<Doc>) -> Result<u32, ModelFault>
     number_at(alloc, fields, "maxAttempts", 1, 100_000)
 }
 
-#[tactic(auto, unfolding(crate::specs::Waiters::acceptors_of))]
+#[tactic(auto, using(crate::proofs::Each::gives_inside), unfolding(crate::specs::Waiters::acceptors_of))]
 fn acceptors_at(alloc: Global, fields: &Pairs<Doc>) -> Result<List<Acceptor>, ModelFault>
     ensures { Gives (λ acceptors. acceptors) (acceptors_of fields.now) result }
 {
     let items = items_at(alloc, fields, "acceptors")?;
-    match read_acceptors(alloc, items.as_slice()) {
-        Ok(acceptors) => Ok(acceptors),
-        Err(fault) => Err(move_below(alloc, "acceptors", fault)),
-    }
+    inside(alloc, "acceptors", read_acceptors(alloc, items.as_slice()))
 }
 
 /// The whole number at a key, from `least` to `most`.
@@ -232,7 +232,7 @@ fn read_acceptors(alloc: Global, items: &[Doc]) -> Result<List<Acceptor>, ModelF
 fn read_acceptor(alloc: Global, doc: &Doc) -> Result<Acceptor, ModelFault>
     ensures { Gives (λ acceptor. acceptor) (acceptor_of doc.now) result }
 {
-    let fields = object(alloc, doc)?;
+    let fields = object(doc)?;
     let state = read_state(alloc, fields)?;
     let matcher = read_matcher(alloc, fields)?;
     let argument = read_argument(alloc, fields, matcher)?;

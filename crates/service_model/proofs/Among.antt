@@ -10,7 +10,9 @@ use Rattle.json_doc.specs.declared.doc.Doc.{Doc}
 use Rattle.std.specs.Fmt.{decimal}
 use Rattle.model_files.specs.declared.fault.ModelFault.{ModelFault}
 use Rattle.model_files.specs.declared.fault.ModelFault.TheVariants.{WrongKind}
-use Rattle.model_files.specs.Faults.{◌>>=◌, inside, demand, each_from}
+use Rattle.model_files.specs.declared.fault.Place.TheVariants.{Whole}
+use Rattle.model_files.specs.Faults.{inside, demand, each_from}
+use Rattle.texts.specs.Calls.{◌>>=◌}
 use Rattle.model_files.specs.Reading.{text_of}
 use Rattle.service_model.specs.declared.shape.Member.{Member}
 use Rattle.service_model.specs.Shapes.{name_among, names_in}
@@ -44,8 +46,8 @@ pub any_insert : (name k : List ℕ) (ks : List (List ℕ)) → list_any (bytes_
 any_insert name k ks = by_there name k ks (list_any (bytes_eq k) ks) refl
 
 same_demand : (names others : List (List ℕ)) (read : Result (List ℕ) ModelFault) → ((name : List ℕ) → list_any (bytes_eq name) names ≡ list_any (bytes_eq name) others)
-    → (read >>= (λ name. demand (list_any (bytes_eq name) names) (WrongKind []) (Ok name))) ≡ (read >>= (λ name. demand (list_any (bytes_eq name) others) (WrongKind []) (Ok name)))
-same_demand names others (Ok name) same = ap (λ b. demand b (WrongKind []) (Ok name)) (same name)
+    → (read >>= (λ name. demand (list_any (bytes_eq name) names) (WrongKind Whole) (Ok name))) ≡ (read >>= (λ name. demand (list_any (bytes_eq name) others) (WrongKind Whole) (Ok name)))
+same_demand names others (Ok name) same = ap (λ b. demand b (WrongKind Whole) (Ok name)) (same name)
 same_demand names others (Err fault) same = refl
 
 -- names that hold the same texts list the same

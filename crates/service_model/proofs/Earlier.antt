@@ -4,9 +4,10 @@ use Rattle.std.specs.Cmp.Lexicographic.{pointwise}
 use Rattle.std.proofs.lemmas.List.{at_drop_more, at_drop_all}
 use Rattle.indexmap.specs.IndexSet.{insert_key}
 use Rattle.json_doc.specs.declared.doc.Doc.{Doc}
-use Rattle.json_doc.specs.declared.pairs.Pair.{Pair}
+use Rattle.texts.specs.declared.pairs.Pair.{Pair}
 use Rattle.model_files.specs.declared.fault.ModelFault.{ModelFault}
-use Rattle.model_files.specs.Faults.{◌>>=◌, moved, inside, IsFault, Fails}
+use Rattle.model_files.specs.Faults.{moved, inside, IsFault, Fails}
+use Rattle.texts.specs.Calls.{◌>>=◌}
 use Rattle.model_files.specs.Reading.{Fields}
 use Rattle.model_files.proofs.Each.{with_front, one_more, fails_moved, fails_first, fails_in_front, fails_same}
 use Rattle.service_model.specs.declared.operations.Row.{Row}

@@ -2,7 +2,7 @@
 use Rattle.std.proofs.Common.{◌≡◌, ℕ, ◌==◌, Bool, false, ◌&&◌, List, [], ◌∷◌, length, Option, None, Some, bytes_eq, refl, sym, ap₂, ◌∙◌}
 use Rattle.std.specs.List.{list_any, list_all}
 use Rattle.json_doc.specs.declared.doc.Doc.{Doc}
-use Rattle.json_doc.specs.declared.pairs.Pair.{Pair}
+use Rattle.texts.specs.declared.pairs.Pair.{Pair}
 use Rattle.service_model.specs.declared.labelled.LabelUse.{LabelUse}
 use Rattle.service_model.specs.Operations.{is_labelled, are_named}
 

@@ -2,6 +2,8 @@ pub mod Among
 pub mod Clashes
 pub mod Describing
 pub mod Earlier
+pub mod KeptOperations
+pub mod KeptShapes
 pub mod Labelling
 pub mod Leading
 pub mod Noted
@@ -11,5 +13,4 @@ pub mod Reading
 pub mod Refusals
 pub mod Sequences
 pub mod Soundness
-pub mod Steps
 pub mod Whole

@@ -6,8 +6,8 @@ use Rattle.std.proofs.lemmas.List.{take-append-drop, at_drop_more, map_more}
 use Rattle.std.proofs.lemmas.Slice.Eq.{bytes_eq-Decides}
 use Rattle.indexmap.specs.IndexMap.{insert_entry}
 use Rattle.json_doc.specs.declared.doc.Doc.{Doc}
-use Rattle.json_doc.specs.declared.pairs.Pair.{Pair}
-use Rattle.json_doc.specs.Keys.{keys, IsNew, IsDistinct}
+use Rattle.texts.specs.declared.pairs.Pair.{Pair}
+use Rattle.texts.specs.Keys.{keys, IsNew, IsDistinct}
 use Rattle.json_doc.proofs.Gathering.{IsNew-before}
 use Rattle.service_model.specs.declared.numbering.Outline.{Outline}
 use Rattle.service_model.specs.Numbering.{Names, names_of, outline_of}

@@ -2,7 +2,8 @@
 use Rattle.std.proofs.Common.{◌≡◌, Bool, false, Result, Ok, Err, sym, ap, subst, ◌∙◌}
 use Rattle.std.specs.Prelude.{IsErr, IsErrAnd}
 use Rattle.model_files.specs.declared.fault.ModelFault.{ModelFault}
-use Rattle.model_files.specs.Faults.{◌>>=◌, demand, Fails, IsFault, Gives}
+use Rattle.model_files.specs.Faults.{demand, Fails, IsFault, Gives}
+use Rattle.texts.specs.Calls.{◌>>=◌}
 use Rattle.model_files.proofs.Each.{fails_same, is_due}
 
 -- a step that goes well, before steps that fail

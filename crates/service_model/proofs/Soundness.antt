@@ -5,11 +5,13 @@ use lib.ListN.{length-map}
 use Rattle.std.proofs.lemmas.Option.{slice_get-map}
 use Rattle.std.proofs.lemmas.List.Quantifiers.{position-Some}
 use Rattle.json_doc.specs.declared.doc.Doc.{Doc}
-use Rattle.json_doc.specs.declared.pairs.Pair.{Pair}
-use Rattle.json_doc.specs.Keys.{value_at}
+use Rattle.texts.specs.declared.pairs.Pair.{Pair}
+use Rattle.texts.specs.Keys.{value_at}
 use Rattle.model_files.specs.declared.fault.ModelFault.{ModelFault}
 use Rattle.model_files.specs.declared.fault.ModelFault.TheVariants.{UnknownShape, WrongKind}
-use Rattle.model_files.specs.Faults.{◌>>=◌, inside, demand, or_fault}
+use Rattle.model_files.specs.declared.fault.Place.TheVariants.{At}
+use Rattle.model_files.specs.Faults.{inside, demand, or_fault}
+use Rattle.texts.specs.Calls.{◌>>=◌}
 use Rattle.std.specs.Option.{unwrap_or}
 use Rattle.model_files.specs.Reading.{Fields, fields_of, text_at, maybe_text, object_at, flag_at}
 use Rattle.service_model.specs.declared.members.Roles.{Roles}
@@ -27,7 +29,7 @@ use Rattle.service_model.specs.Members.{members_of, member_of, member_at, locati
 use Rattle.service_model.specs.Numbering.{Names, names_of, outline_of, value_in, text_if, number_of, kind_at, reference, reference_in, structure_in, string_in, is_structure, is_string}
 use Rattle.service_model.specs.Numbering as numbering
 use Rattle.service_model.specs.Shapes.{least_of, kind_of_shape, shape_of, shapes_of, structure_if, structure_of, required_of, payload_of, key_if, item_if, key_at, part_at, part_in, some_read}
-use Rattle.service_model.proofs.Steps.{same_ok, bind_ok, inside_ok, demand_ok, or_fault_ok, fields_ok, text_at_ok, each_all, each_place}
+use Rattle.model_files.proofs.Steps.{same_ok, bind_ok, inside_ok, demand_ok, or_fault_ok, fields_ok, text_at_ok, each_all, each_place}
 
 -- a name that has a number
 numbered : (names : Names) (name : List ℕ) (number : ℕ) (id : ShapeId) → number_of names name ≡ Some number
@@ -40,11 +42,11 @@ numbered names name number id found is =
 pub reference_within : (names : Names) (fields : Fields) (id : ShapeId) → reference names fields ≡ Ok id → id.0 < length names
 unfolding reference
 reference_within names fields id e =
-    bind_ok (text_at (codes "shape") fields) (λ name. or_fault (UnknownShape (codes "shape")) (number_of names name) >>= (λ number. Ok (record { 0 = number }))) id e (λ name named rest.
-    bind_ok (or_fault (UnknownShape (codes "shape")) (number_of names name)) (λ number. Ok (record { 0 = number })) id rest (λ number found is.
-    numbered names name number id (or_fault_ok (UnknownShape (codes "shape")) (number_of names name) number found) is))
+    bind_ok (text_at (codes "shape") fields) (λ name. or_fault (UnknownShape (At (codes "shape"))) (number_of names name) >>= (λ number. Ok (record { 0 = number }))) id e (λ name named rest.
+    bind_ok (or_fault (UnknownShape (At (codes "shape"))) (number_of names name)) (λ number. Ok (record { 0 = number })) id rest (λ number found is.
+    numbered names name number id (or_fault_ok (UnknownShape (At (codes "shape"))) (number_of names name) number found) is))
 
-reference_in_within : (names : Names) (doc : Doc) (id : ShapeId) → reference_in names doc ≡ Ok id → id.0 < length names
+pub reference_in_within : (names : Names) (doc : Doc) (id : ShapeId) → reference_in names doc ≡ Ok id → id.0 < length names
 unfolding reference_in
 reference_in_within names doc id e =
     bind_ok (fields_of doc) (reference names) id e (λ fields there is. reference_within names fields id is)
@@ -80,15 +82,15 @@ a_string (Some kind.Timestamp) e = absurd (cc)
 pub structure_in_ok : (names : Names) (doc : Doc) (id : ShapeId) → structure_in names doc ≡ Ok id → kind_at names id ≡ Some kind.Structure
 unfolding structure_in
 structure_in_ok names doc id e =
-    bind_ok (reference_in names doc) (λ i. demand (is_structure (kind_at names i)) (WrongKind (codes "shape")) (Ok i)) id e (λ i there is.
-    let holds = demand_ok (is_structure (kind_at names i)) (WrongKind (codes "shape")) (Ok i) id is in
+    bind_ok (reference_in names doc) (λ i. demand (is_structure (kind_at names i)) (WrongKind (At (codes "shape"))) (Ok i)) id e (λ i there is.
+    let holds = demand_ok (is_structure (kind_at names i)) (WrongKind (At (codes "shape"))) (Ok i) id is in
     ap (kind_at names) (sym (same_ok i id holds.1)) ∙ a_structure (kind_at names i) holds.0)
 
 string_in_ok : (names : Names) (doc : Doc) (id : ShapeId) → string_in names doc ≡ Ok id → kind_at names id ≡ Some kind.Str
 unfolding string_in
 string_in_ok names doc id e =
-    bind_ok (reference_in names doc) (λ i. demand (is_string (kind_at names i)) (WrongKind (codes "shape")) (Ok i)) id e (λ i there is.
-    let holds = demand_ok (is_string (kind_at names i)) (WrongKind (codes "shape")) (Ok i) id is in
+    bind_ok (reference_in names doc) (λ i. demand (is_string (kind_at names i)) (WrongKind (At (codes "shape"))) (Ok i)) id e (λ i there is.
+    let holds = demand_ok (is_string (kind_at names i)) (WrongKind (At (codes "shape"))) (Ok i) id is in
     ap (kind_at names) (sym (same_ok i id holds.1)) ∙ a_string (kind_at names i) holds.0)
 
 part_in_ok : (names : Names) (read : Names → Doc → Result ShapeId ModelFault) (P : ShapeId → Type 0) → ((doc : Doc) (id : ShapeId) → read names doc ≡ Ok id → P id)
@@ -212,14 +214,14 @@ HasNamed names shape =
 kind_read : (doc : Doc) (fields : Fields) (k : Kind) → fields_of doc ≡ Ok fields → kind_of_shape fields ≡ Ok k → numbering.kind_of doc ≡ Some k
 unfolding kind_of_shape value_in text_if
 kind_read doc fields k there e =
-    bind_ok (text_at (codes "type") fields) (λ name. or_fault (WrongKind (codes "type")) (kind_named name)) k e (λ name named is.
+    bind_ok (text_at (codes "type") fields) (λ name. or_fault (WrongKind (At (codes "type"))) (kind_named name)) k e (λ name named is.
     text_at_ok (codes "type") fields name named (λ at found text.
     ap (λ v. option_and_then kind_named (option_and_then text_if (numbering.value_in_view (codes "type") v))) (fields_ok doc fields there)
     ∙ ap (λ o. option_and_then kind_named (option_and_then text_if o)) found
     ∙ ap (λ v. option_and_then kind_named (numbering.text_in_view v)) text
-    ∙ or_fault_ok (WrongKind (codes "type")) (kind_named name) k is))
+    ∙ or_fault_ok (WrongKind (At (codes "type"))) (kind_named name) k is))
 
-abbrev shape_as : List ℕ → Fields → Kind → Structure → Option ShapeId → Option ShapeId → Option TimeForm → Shape
+abbrev pub shape_as : List ℕ → Fields → Kind → Structure → Option ShapeId → Option ShapeId → Option TimeForm → Shape
 shape_as name fields k s key item time = record {
   name = name;
   kind = k;

@@ -1,23 +1,25 @@
 -- The members of structures.
 use Rattle.std.specs.Prelude.{ℕ, Bool, not, ◌&&◌, List, Option, None, Some, unwrap_or, Result, Ok, Err, codes}
 use Rattle.json_doc.specs.declared.doc.Doc.{Doc}
-use Rattle.json_doc.specs.declared.pairs.Pair.{Pair}
+use Rattle.texts.specs.declared.pairs.Pair.{Pair}
 use Rattle.model_files.specs.declared.fault.ModelFault.{ModelFault}
 use Rattle.model_files.specs.declared.fault.ModelFault.TheVariants.{WrongKind}
+use Rattle.model_files.specs.declared.fault.Place.TheVariants.{At}
 use Rattle.service_model.specs.declared.members.Roles.{Roles}
 use Rattle.service_model.specs.declared.shape.Location.{Location}
 use Rattle.service_model.specs.declared.shape.Member.{Member}
 use Rattle.service_model.specs.declared.shape.ShapeId.{ShapeId}
 use Rattle.service_model.specs.declared.shape.TimeForm.{TimeForm}
 use Rattle.service_model.specs.Choices.{location_named, time_form_named}
-use Rattle.model_files.specs.Faults.{◌>>=◌, inside, demand, each}
+use Rattle.model_files.specs.Faults.{inside, demand, each}
+use Rattle.texts.specs.Calls.{◌>>=◌}
 use Rattle.service_model.specs.Locations.{can_stand, is_scalar_shape}
 use Rattle.service_model.specs.Numbering.{Names, reference}
 use Rattle.model_files.specs.Reading.{Fields, fields_of, text_at, maybe_text, maybe_object, flag_at}
 
 abbrev pub standing : Names → ShapeId → Option Location → Result (Option Location) ModelFault
-standing names id None = Err (WrongKind (codes "location"))
-standing names id (Some location) = demand (can_stand names id location) (WrongKind (codes "location")) (Ok (Some location))
+standing names id None = Err (WrongKind (At (codes "location")))
+standing names id (Some location) = demand (can_stand names id location) (WrongKind (At (codes "location"))) (Ok (Some location))
 
 abbrev pub location_in : Names → ShapeId → Option (List ℕ) → Result (Option Location) ModelFault
 location_in names id None = Ok None
@@ -30,7 +32,7 @@ location_of names fields id = do
   location_in names id name
 
 abbrev pub form_in : Option TimeForm → Result (Option TimeForm) ModelFault
-form_in None = Err (WrongKind (codes "timestampFormat"))
+form_in None = Err (WrongKind (At (codes "timestampFormat")))
 form_in (Some form) = Ok (Some form)
 
 unfoldable pub time_in : Option (List ℕ) → Result (Option TimeForm) ModelFault
@@ -47,7 +49,7 @@ time_of fields = do
 unfoldable pub host_label_of : Names → Fields → ShapeId → Result Bool ModelFault
 host_label_of names fields id = do
   is_label ← flag_at (codes "hostLabel") fields
-  demand (not (is_label && not (is_scalar_shape names id))) (WrongKind (codes "hostLabel")) (Ok is_label)
+  demand (not (is_label && not (is_scalar_shape names id))) (WrongKind (At (codes "hostLabel"))) (Ok is_label)
 
 abbrev pub context_in : Option Fields → Result (Option (List ℕ)) ModelFault
 context_in None = Ok None

@@ -3,10 +3,11 @@ use Rattle.std.specs.Prelude.{ℕ, Bool, true, false, if◌then◌else◌, List,
 use Rattle.std.specs.List.{list_any}
 use Rattle.model_files.specs.declared.fault.ModelFault.{ModelFault}
 use Rattle.model_files.specs.declared.fault.ModelFault.TheVariants.{Missing}
+use Rattle.model_files.specs.declared.fault.Place.TheVariants.{At}
 use Rattle.service_model.specs.declared.metadata.Described.{Described}
 use Rattle.service_model.specs.declared.metadata.Protocol.{Protocol}
 use Rattle.service_model.specs.declared.metadata.Protocol.TheVariants.{Json, RestJson, Other}
-use Rattle.model_files.specs.Faults.{◌>>=◌}
+use Rattle.texts.specs.Calls.{◌>>=◌}
 use Rattle.model_files.specs.Reading.{Fields, text_at, maybe_text, maybe_texts}
 
 -- a text stands in the list
@@ -28,7 +29,7 @@ protocol_among names = if is_among (codes "json") names then Json else if is_amo
 abbrev pub protocol_from : Option (List ℕ) → Option (List (List ℕ)) → Result Protocol ModelFault
 protocol_from protocol (Some names) = Ok (protocol_among names)
 protocol_from (Some name) None = Ok (protocol_named name)
-protocol_from None None = Err (Missing (codes "protocol"))
+protocol_from None None = Err (Missing (At (codes "protocol")))
 
 -- the protocol: of `protocols` where they are given, else `protocol`
 unfoldable pub protocol_of : Fields → Result Protocol ModelFault
@@ -44,7 +45,7 @@ is_json Other = false
 
 abbrev pub json_or_empty : Bool → List ℕ → Option (List ℕ) → Result (List ℕ) ModelFault
 json_or_empty is_json key (Some text) = Ok text
-json_or_empty true key None = Err (Missing key)
+json_or_empty true key None = Err (Missing (At key))
 json_or_empty false key None = Ok []
 
 -- a text that is needed where the protocol is `json`, and is empty where it isn't there

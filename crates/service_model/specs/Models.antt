@@ -1,20 +1,23 @@
 -- What a model file says as a whole.
-use Rattle.std.specs.Prelude.{◌≡◌, ℕ, ◌<◌, ◌≤◌, Bool, nat_le, List, [], ◌∷◌, if◌then◌else◌, length, Option, None, Some, Result, Ok, Err, IfSome, bytes_eq, codes}
+use Rattle.std.specs.Prelude.{◌≡◌, ℕ, ◌≤◌, Bool, nat_le, List, [], ◌∷◌, if◌then◌else◌, map, length, Option, None, Some, Result, Ok, Err, IfSome, bytes_eq, codes}
 use Rattle.std.specs.List.{AllZip, All}
 use Rattle.json_doc.specs.declared.doc.Doc.{Doc}
+use Rattle.texts.specs.Keys.{IsDistinct}
 use Rattle.model_files.specs.declared.fault.ModelFault.{ModelFault}
 use Rattle.model_files.specs.declared.fault.ModelFault.TheVariants.{WrongKind}
-use Rattle.model_files.specs.Faults.{◌>>=◌, inside, demand, Fails}
+use Rattle.model_files.specs.declared.fault.Place.TheVariants.{At}
+use Rattle.model_files.specs.Faults.{inside, demand, Fails}
+use Rattle.texts.specs.Calls.{◌>>=◌}
 use Rattle.model_files.specs.Reading.{Fields, fields_of, object_at}
 use Rattle.service_model.specs.declared.metadata.Described.{Described}
 use Rattle.service_model.specs.declared.model.Table.{Table}
 use Rattle.service_model.specs.declared.operation.Operation.{Operation}
 use Rattle.service_model.specs.declared.operations.Row.{Row}
-use Rattle.service_model.specs.declared.shape.Kind.{Kind}
-use Rattle.service_model.specs.declared.shape.Kind.TheVariants.{Structure, Str}
+use Rattle.service_model.specs.declared.shape.Kind.TheVariants.{Str}
 use Rattle.service_model.specs.declared.shape.Shape.{Shape}
-use Rattle.service_model.specs.declared.shape.ShapeId.{ShapeId}
-use Rattle.service_model.specs.Admission.{IsAdmitted, kind_of}
+use Rattle.service_model.specs.Admission.{IsAdmitted}
+pub use Rattle.service_model.specs.Kept.{IsWithin, IsOfKind}
+use Rattle.service_model.specs.Kept.{IsShape, IsOperation}
 use Rattle.service_model.specs.Metadata.{metadata_of}
 use Rattle.service_model.specs.Numbering.{names_of}
 use Rattle.service_model.specs.Operations.{operations_of}
@@ -27,7 +30,7 @@ parts_of doc = do
   metadata ← object_at (codes "metadata") fields
   operations ← object_at (codes "operations") fields
   shapes ← object_at (codes "shapes") fields
-  demand (nat_le (length shapes) 1000000) (WrongKind (codes "shapes")) (Ok (metadata, operations, shapes))
+  demand (nat_le (length shapes) 1000000) (WrongKind (At (codes "shapes"))) (Ok (metadata, operations, shapes))
 
 -- the operations and then the shapes
 unfoldable pub entries_of : Bool → Fields → Fields → Result (List Row × List Shape) ModelFault
@@ -63,24 +66,15 @@ abbrev pub operation_named : List ℕ → List Operation → Option Operation
 operation_named command [] = None
 operation_named command (o ∷ os) = if bytes_eq o.command command then Some o else operation_named command os
 
--- a number is that of a shape
-abbrev pub IsWithin : List Shape → ShapeId → Type 0
-IsWithin shapes id = id.0 < length shapes
-
--- a number is that of a shape of this kind
-abbrev pub IsOfKind : Kind → List Shape → ShapeId → Type 0
-IsOfKind kind shapes id = kind_of shapes id ≡ Some kind
-
 -- each number that a shape holds is that of a shape, and keys are strings
 abbrev pub HasParts : List Shape → Shape → Type 0
 HasParts shapes shape =
     All (λ m. IsWithin shapes m.shape) shape.members × IfSome shape.item (IsWithin shapes) × IfSome shape.key (IsOfKind Str shapes)
 
--- inputs and outputs are structures
-abbrev pub HasStructures : List Shape → Operation → Type 0
-HasStructures shapes op = IfSome op.input (IsOfKind Structure shapes) × IfSome op.output (IsOfKind Structure shapes)
-
--- a table misses no shape and no kind
-abbrev pub IsSound : Table → Type 0
-IsSound table =
-    (length table.shapes ≤ 1000000) × All (HasParts table.shapes) table.shapes × All (HasStructures table.shapes) table.operations
+-- what a table that was read keeps: it misses no shape and no kind, and no name stands twice
+pub record IsSound (table : Table) : Type 0 where
+  pub few : length table.shapes ≤ 1000000
+  pub shapes : All (IsShape table.shapes) table.shapes
+  pub operations : All (IsOperation table.shapes) table.operations
+  pub names : IsDistinct (map (λ shape. shape.name) table.shapes)
+  pub commands : IsDistinct (map (λ op. op.command) table.operations)

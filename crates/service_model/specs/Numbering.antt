@@ -5,15 +5,17 @@ use Rattle.std.specs.Map.{lookup}
 use Rattle.json_doc.specs.declared.doc.Doc.{Doc}
 use Rattle.json_doc.specs.declared.doc.Doc.TheOpen.{Doc-F}
 use Rattle.json_doc.specs.declared.doc.Doc.TheViews.{out-Doc}
-use Rattle.json_doc.specs.Keys.{value_at}
+use Rattle.texts.specs.Keys.{value_at}
 use Rattle.model_files.specs.declared.fault.ModelFault.{ModelFault}
 use Rattle.model_files.specs.declared.fault.ModelFault.TheVariants.{UnknownShape, WrongKind}
+use Rattle.model_files.specs.declared.fault.Place.TheVariants.{At}
 use Rattle.service_model.specs.declared.numbering.Outline.{Outline}
 use Rattle.service_model.specs.declared.shape.Kind.{Kind}
 use Rattle.service_model.specs.declared.shape.Kind.TheVariants as kind
 use Rattle.service_model.specs.declared.shape.ShapeId.{ShapeId}
 use Rattle.service_model.specs.Choices.{kind_named}
-use Rattle.model_files.specs.Faults.{◌>>=◌, or_fault, demand}
+use Rattle.model_files.specs.Faults.{or_fault, demand}
+use Rattle.texts.specs.Calls.{◌>>=◌}
 use Rattle.model_files.specs.Reading.{Fields, fields_of, text_at}
 
 abbrev pub value_in_view : List ℕ → Doc-F Doc → Option Doc
@@ -79,7 +81,7 @@ item_outline names outline = option_and_then (λ name. lookup (bytes_eq name) na
 unfoldable pub reference : Names → Fields → Result ShapeId ModelFault
 reference names fields = do
   name ← text_at (codes "shape") fields
-  number ← or_fault (UnknownShape (codes "shape")) (number_of names name)
+  number ← or_fault (UnknownShape (At (codes "shape"))) (number_of names name)
   Ok (record { 0 = number })
 
 unfoldable pub reference_in : Names → Doc → Result ShapeId ModelFault
@@ -99,10 +101,10 @@ is_string _ = false
 unfoldable pub structure_in : Names → Doc → Result ShapeId ModelFault
 structure_in names doc = do
   id ← reference_in names doc
-  demand (is_structure (kind_at names id)) (WrongKind (codes "shape")) (Ok id)
+  demand (is_structure (kind_at names id)) (WrongKind (At (codes "shape"))) (Ok id)
 
 -- the string that is named at `shape`
 unfoldable pub string_in : Names → Doc → Result ShapeId ModelFault
 string_in names doc = do
   id ← reference_in names doc
-  demand (is_string (kind_at names id)) (WrongKind (codes "shape")) (Ok id)
+  demand (is_string (kind_at names id)) (WrongKind (At (codes "shape"))) (Ok id)

@@ -4,16 +4,18 @@ use Rattle.std.specs.List.{list_any, list_all}
 use Rattle.json_doc.specs.declared.doc.Doc.{Doc}
 use Rattle.json_doc.specs.declared.doc.Doc.TheOpen.{Doc-F}
 use Rattle.json_doc.specs.declared.doc.Doc.TheViews.{out-Doc}
-use Rattle.json_doc.specs.declared.pairs.Pair.{Pair}
-use Rattle.json_doc.specs.Keys.{value_at}
+use Rattle.texts.specs.declared.pairs.Pair.{Pair}
+use Rattle.texts.specs.Keys.{value_at}
 use Rattle.model_files.specs.declared.fault.ModelFault.{ModelFault}
 use Rattle.model_files.specs.declared.fault.ModelFault.TheVariants.{Missing, WrongKind, Collides}
+use Rattle.model_files.specs.declared.fault.Place.TheVariants.{At}
 use Rattle.service_model.specs.declared.labelled.LabelUse.{LabelUse}
 use Rattle.service_model.specs.declared.labelled.LabelUse.TheVariants.{Uri, Host}
 use Rattle.service_model.specs.declared.operations.Row.{Row}
 use Rattle.service_model.specs.declared.signing.Signing.{Signing}
 use Rattle.service_model.specs.declared.shape.ShapeId.{ShapeId}
-use Rattle.model_files.specs.Faults.{◌>>=◌, below, inside, demand, each}
+use Rattle.model_files.specs.Faults.{below, inside, demand, each}
+use Rattle.texts.specs.Calls.{◌>>=◌}
 use Rattle.service_model.specs.Labels.{labels}
 use Rattle.service_model.specs.Metadata.{is_among, is_text}
 use Rattle.model_files.specs.Names.{command_name}
@@ -22,7 +24,7 @@ use Rattle.model_files.specs.Reading.{Fields, fields_of, text_at, maybe_text, ma
 
 -- the command name of an operation, which no earlier one has
 unfoldable pub command_of : List (List ℕ) → List ℕ → Result (List ℕ) ModelFault
-command_of earlier name = demand (not (list_any (bytes_eq (command_name name)) earlier)) (Collides (codes "name")) (Ok (command_name name))
+command_of earlier name = demand (not (list_any (bytes_eq (command_name name)) earlier)) (Collides (At (codes "name"))) (Ok (command_name name))
 
 abbrev pub fields_if_view : Doc-F Doc → Option Fields
 fields_if_view (Doc-F.Fields fields) = Some fields
@@ -78,7 +80,7 @@ are_named place members names = list_all (names_one place members) names
 unfoldable pub uri_of : Names → Fields → Fields → Fields → Result (List ℕ) ModelFault
 uri_of names shapes fields http = do
   uri ← text_at (codes "requestUri") http
-  demand (are_named Uri (input_members names shapes fields) (labels uri)) (WrongKind (codes "requestUri")) (Ok uri)
+  demand (are_named Uri (input_members names shapes fields) (labels uri)) (WrongKind (At (codes "requestUri"))) (Ok uri)
 
 unfoldable pub method_and_uri : Names → Fields → Fields → Fields → Result (List ℕ × List ℕ) ModelFault
 method_and_uri names shapes fields http = do
@@ -87,7 +89,7 @@ method_and_uri names shapes fields http = do
   Ok (method, uri)
 
 abbrev pub http_in : Names → Fields → Fields → Option Fields → Result (List ℕ × List ℕ) ModelFault
-http_in names shapes fields None = Err (Missing (below (codes "http") (codes "method")))
+http_in names shapes fields None = Err (Missing (below (codes "http") (At (codes "method"))))
 http_in names shapes fields (Some http) = inside (codes "http") (method_and_uri names shapes fields http)
 
 -- the method of HTTP and the URI, each of whose labels names a member of the input that stands in URIs
@@ -108,7 +110,7 @@ structure_at names key fields = structure_maybe names key (value_at key fields)
 
 abbrev pub prefix_in : Option Fields → Option (List ℕ) → Result (Option (List ℕ)) ModelFault
 prefix_in members None = Ok None
-prefix_in members (Some prefix) = demand (are_named Host members (labels prefix)) (WrongKind (codes "hostPrefix")) (Ok (Some prefix))
+prefix_in members (Some prefix) = demand (are_named Host members (labels prefix)) (WrongKind (At (codes "hostPrefix"))) (Ok (Some prefix))
 
 unfoldable pub endpoint_prefix : Option Fields → Fields → Result (Option (List ℕ)) ModelFault
 endpoint_prefix members endpoint = do
@@ -164,7 +166,7 @@ unfoldable pub fixed_value : Pair Doc → Result (List ℕ × Doc) ModelFault
 fixed_value p = do
   fields ← fields_of p.value
   value ← needed (codes "value") fields
-  demand (is_fixed (out-Doc value)) (WrongKind (codes "value")) (Ok (p.key, value))
+  demand (is_fixed (out-Doc value)) (WrongKind (At (codes "value"))) (Ok (p.key, value))
 
 unfoldable pub fixed_in : Doc → Result (List (List ℕ × Doc)) ModelFault
 fixed_in doc = do

@@ -5,10 +5,11 @@ use Rattle.json_doc.specs.declared.decimal.Decimal.{Decimal}
 use Rattle.json_doc.specs.declared.doc.Doc.{Doc}
 use Rattle.json_doc.specs.declared.doc.Doc.TheOpen.{Doc-F}
 use Rattle.json_doc.specs.declared.doc.Doc.TheViews.{out-Doc}
-use Rattle.json_doc.specs.declared.pairs.Pair.{Pair}
-use Rattle.json_doc.specs.Keys.{value_at}
+use Rattle.texts.specs.declared.pairs.Pair.{Pair}
+use Rattle.texts.specs.Keys.{value_at}
 use Rattle.model_files.specs.declared.fault.ModelFault.{ModelFault}
 use Rattle.model_files.specs.declared.fault.ModelFault.TheVariants.{Missing, WrongKind}
+use Rattle.model_files.specs.declared.fault.Place.TheVariants.{Whole, At}
 use Rattle.service_model.specs.declared.shape.Kind.{Kind}
 use Rattle.service_model.specs.declared.shape.Kind.TheVariants as kind
 use Rattle.service_model.specs.declared.shape.Member.{Member}
@@ -16,7 +17,8 @@ use Rattle.service_model.specs.declared.shape.Shape.{Shape}
 use Rattle.service_model.specs.declared.shape.ShapeId.{ShapeId}
 use Rattle.service_model.specs.declared.shapes.Structure.{Structure}
 use Rattle.service_model.specs.Choices.{kind_named}
-use Rattle.model_files.specs.Faults.{◌>>=◌, below, inside, or_fault, demand, each, each_from}
+use Rattle.model_files.specs.Faults.{below, inside, or_fault, demand, each, each_from}
+use Rattle.texts.specs.Calls.{◌>>=◌}
 use Rattle.service_model.specs.Members.{members_of, time_of}
 use Rattle.service_model.specs.Numbering.{Names, reference_in, string_in}
 use Rattle.model_files.specs.Reading.{Fields, fields_of, text_of, items_of, object_at, text_at, maybe_text, flag_at}
@@ -24,7 +26,7 @@ use Rattle.model_files.specs.Reading.{Fields, fields_of, text_of, items_of, obje
 unfoldable pub kind_of_shape : Fields → Result Kind ModelFault
 kind_of_shape fields = do
   name ← text_at (codes "type") fields
-  or_fault (WrongKind (codes "type")) (kind_named name)
+  or_fault (WrongKind (At (codes "type"))) (kind_named name)
 
 -- the name of a member
 abbrev pub names_member : List Member → List ℕ → Bool
@@ -34,7 +36,7 @@ names_member members name = list_any (λ m. bytes_eq m.name name) members
 unfoldable pub name_among : List (List ℕ) → Doc → Result (List ℕ) ModelFault
 name_among names doc = do
   name ← text_of doc
-  demand (list_any (bytes_eq name) names) (WrongKind []) (Ok name)
+  demand (list_any (bytes_eq name) names) (WrongKind Whole) (Ok name)
 
 abbrev pub names_in : List Member → List (List ℕ)
 names_in members = map (λ m. m.name) members
@@ -55,7 +57,7 @@ required_of members fields = required_in members (value_at (codes "required") fi
 
 abbrev pub payload_in : List Member → Option (List ℕ) → Result (Option (List ℕ)) ModelFault
 payload_in members None = Ok None
-payload_in members (Some name) = demand (names_member members name) (WrongKind (codes "payload")) (Ok (Some name))
+payload_in members (Some name) = demand (names_member members name) (WrongKind (At (codes "payload"))) (Ok (Some name))
 
 -- the name of the member that is the whole body
 unfoldable pub payload_of : List Member → Fields → Result (Option (List ℕ)) ModelFault
@@ -84,7 +86,7 @@ structure_if kind.Structure names fields = structure_of names fields
 structure_if _ names fields = Ok no_structure
 
 abbrev pub part_in : (Names → Doc → Result ShapeId ModelFault) → Names → List ℕ → Option Doc → Result ShapeId ModelFault
-part_in read names key None = Err (Missing (below key (codes "shape")))
+part_in read names key None = Err (Missing (below key (At (codes "shape"))))
 part_in read names key (Some doc) = inside key (read names doc)
 
 -- the shape that is named at a key

@@ -5,11 +5,11 @@ ghost use Rattle.model_files.specs.Faults.{each, Gives};
 ghost use Rattle.service_model.specs.Operations.{is_fixed, fixed_value, fixed_in, fixed_params_of};
 
 use json_doc::{Doc, List, Pair, Pairs, Text, copy};
-use model_files::{ModelFault, move_below, needed, object, wrong};
+use model_files::{ModelFault, inside, needed, object, wrong};
 use std::alloc::Global;
 
 /// The parameters of endpoint rules that an operation sets.
-#[tactic(auto, unfolding(crate::specs::Operations::fixed_params_of))]
+#[tactic(auto, using(model_files::proofs::Each::gives_inside), unfolding(crate::specs::Operations::fixed_params_of))]
 pub fn read_fixed_params(
     alloc: Global,
     fields: &Pairs<Doc>,
@@ -19,17 +19,14 @@ pub fn read_fixed_params(
     let Some(doc) = fields.get("staticContextParams") else {
         return Ok(List::new(alloc));
     };
-    match fixed_params(alloc, doc) {
-        Ok(params) => Ok(params),
-        Err(fault) => Err(move_below(alloc, "staticContextParams", fault)),
-    }
+    inside(alloc, "staticContextParams", fixed_params(alloc, doc))
 }
 
 #[tactic(auto, unfolding(crate::specs::Operations::fixed_in))]
 fn fixed_params(alloc: Global, doc: &Doc) -> Result<List<(Text, Doc)>, ModelFault>
     ensures { Gives (λ x. x) (fixed_in doc.now) result }
 {
-    let pairs = object(alloc, doc)?;
+    let pairs = object(doc)?;
     fixed_pairs(alloc, pairs)
 }
 
@@ -38,10 +35,8 @@ fn fixed_pairs(alloc: Global, pairs: &Pairs<Doc>) -> Result<List<(Text, Doc)>, M
 {
     let mut params = List::new(alloc);
     for pair in pairs.as_slice() {
-        match fixed_value(alloc, pair) {
-            Ok(param) => params.push(param)?,
-            Err(fault) => return Err(move_below(alloc, pair.key.as_str(), fault)),
-        }
+        let param = inside(alloc, pair.key.as_str(), fixed_value(alloc, pair))?;
+        params.push(param)?;
     }
     Ok(params)
 }
@@ -51,7 +46,7 @@ fn fixed_pairs(alloc: Global, pairs: &Pairs<Doc>) -> Result<List<(Text, Doc)>, M
 fn fixed_value(alloc: Global, pair: &Pair<Doc>) -> Result<(Text, Doc), ModelFault>
     ensures { Gives (λ x. x) (fixed_value pair.now) result }
 {
-    let fields = object(alloc, &pair.value)?;
+    let fields = object(&pair.value)?;
     let value = needed(alloc, fields, "value")?;
     if !is_fixed(value) {
         return Err(wrong(alloc, "value"));

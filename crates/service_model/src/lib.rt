@@ -24,10 +24,8 @@ mod signing;
 pub use metadata::{Metadata, Protocol};
 pub use model::Model;
 pub use model_files::{
-    Acceptor, Matcher, ModelFault, PagerRow, Paginators, State, WaiterRow, Waiters, command_name,
+    Acceptor, Matcher, ModelFault, PagerRow, Paginators, Place, State, WaiterRow, Waiters,
+    command_name,
 };
 pub use operation::{Operation, Refusal};
 pub use shape::{Kind, Location, Member, Shape, ShapeId, TimeForm};
-
-#[cfg(test)]
-mod tests;

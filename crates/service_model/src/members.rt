@@ -11,7 +11,7 @@ use crate::numbering::{Names, reference};
 use crate::{Location, Member, ShapeId, TimeForm};
 use json_doc::{Doc, List, OutOfMemory, Pair, Pairs, Text};
 use model_files::{
-    ModelFault, copied, flag_at, maybe_object, maybe_text, move_below, object, text_at, wrong,
+    ModelFault, copied, flag_at, inside, maybe_object, maybe_text, object, text_at, wrong,
 };
 use std::alloc::Global;
 
@@ -26,10 +26,8 @@ pub fn read_members(
 {
     let mut members = Vec::with_capacity(alloc, pairs.len())?;
     for pair in pairs.as_slice() {
-        match read_member(alloc, names, pair) {
-            Ok(member) => members.push(member)?,
-            Err(fault) => return Err(move_below(alloc, pair.key.as_str(), fault)),
-        }
+        let member = inside(alloc, pair.key.as_str(), read_member(alloc, names, pair))?;
+        members.push(member)?;
     }
     Ok(List::from_vec(members))
 }
@@ -39,7 +37,7 @@ fn read_member(alloc: Global, names: &Names, pair: &Pair<Doc>) -> Result<Member,
     requires { length names.now.entries < 2 ^ 32 }
     ensures { Gives (λ x. x) (member_of names.now.entries pair.now) result }
 {
-    let fields = object(alloc, &pair.value)?;
+    let fields = object(&pair.value)?;
     let shape = reference(alloc, names, fields)?;
     let location = read_location(alloc, names, fields, shape)?;
     member_at(alloc, names, pair, fields, shape, location)
@@ -182,15 +180,13 @@ fn is_scalar_shape(names: &Names, shape: ShapeId) -> bool
 }
 
 /// The parameter of endpoint rules that a member sets.
-#[tactic(auto, unfolding(crate::specs::Members::context_of))]
+#[tactic(auto, using(model_files::proofs::Each::gives_inside), unfolding(crate::specs::Members::context_of))]
 fn read_context(alloc: Global, fields: &Pairs<Doc>) -> Result<Option<&Text>, ModelFault>
     ensures { Gives option_copied (context_of fields.now) result }
 {
     let Some(context) = maybe_object(alloc, fields, "contextParam")? else {
         return Ok(None);
     };
-    match text_at(alloc, context, "name") {
-        Ok(name) => Ok(Some(name)),
-        Err(fault) => Err(move_below(alloc, "contextParam", fault)),
-    }
+    let name = inside(alloc, "contextParam", text_at(alloc, context, "name"))?;
+    Ok(Some(name))
 }

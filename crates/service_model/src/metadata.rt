@@ -1,6 +1,6 @@
 ghost use Rattle.std.specs.Prelude.{◌≡◌, IsTrue};
 ghost use Rattle.std.specs.Option.{option_copied};
-ghost use Rattle.json_doc.specs.Ascii.{is_ascii_text};
+ghost use Rattle.texts.specs.Ascii.{is_ascii_text};
 ghost use Rattle.model_files.specs.Faults.{Gives};
 ghost use Rattle.service_model.specs.Metadata.{is_among, is_text, protocol_named, protocol_among, protocol_of, is_json, json_text, metadata_of};
 

@@ -1,7 +1,9 @@
-ghost use Rattle.std.specs.Prelude.{◌≡◌, ◌<◌, ◌^◌, length, slice_get, Some, None, codes, MatchResult};
+ghost use Rattle.std.specs.Prelude.{◌≡◌, ◌<◌, ◌^◌, length, map, slice_get, Some, None, codes, IfOk, IfSome, MatchResult};
 ghost use Rattle.std.specs.Option.{option_copied};
 ghost use Rattle.std.specs.Str.{chars};
 ghost use Rattle.model_files.specs.Faults.{inside, Gives};
+ghost use Rattle.texts.specs.Keys.{keys, IsDistinct};
+ghost use Rattle.service_model.specs.Kept.{IsShape, IsOperation};
 ghost use Rattle.service_model.specs.Metadata.{metadata_of};
 ghost use Rattle.service_model.specs.Models.{parts_of, entries_of, operation_named, IsRead};
 
@@ -12,7 +14,7 @@ use crate::operations::{Row, Service, read_operations};
 use crate::shapes::read_shapes;
 use crate::{Metadata, Operation, Refusal, Shape, ShapeId};
 use json_doc::{Doc, List, Pairs, Text};
-use model_files::{ModelFault, move_below, object, object_at, wrong};
+use model_files::{ModelFault, inside, object, object_at, wrong};
 use std::alloc::Global;
 
 /// How many shapes a model may have.
@@ -84,20 +86,26 @@ impl Model {
     /// The shape with a number that is below the count.
     pub fn shape(&self, id: ShapeId) -> &Shape
         requires { id.0 < length self.now.shapes }
-        ensures { slice_get self.now.shapes id.0 ≡ Some result.now }
+        ensures at { slice_get self.now.shapes id.0 ≡ Some result.now }
+        ensures kept { IsShape self.now.shapes result.now }
+        ensures names { IsDistinct (map (λ shape. shape.name) self.now.shapes) }
     {
         &self.table.shapes.as_slice()[id.0 as usize]
     }
 
     /// The operation with a command name.
     pub fn operation(&self, command: &Text) -> Option<&Operation>
-        ensures { option_copied result ≡ operation_named command.now self.now.operations }
+        ensures named { option_copied result ≡ operation_named command.now self.now.operations }
+        ensures kept { IfSome result (λ op. IsOperation self.now.shapes op.now) }
+        ensures commands { IsDistinct (map (λ op. op.command) self.now.operations) }
     {
         self.find(command.as_str())
     }
 
     fn find(&self, command: &str) -> Option<&Operation>
-        ensures { option_copied result ≡ operation_named (chars command.now) self.now.operations }
+        ensures named { option_copied result ≡ operation_named (chars command.now) self.now.operations }
+        ensures kept { IfSome result (λ op. IsOperation self.now.shapes op.now) }
+        ensures commands { IsDistinct (map (λ op. op.command) self.now.operations) }
     {
         for operation in self.table.operations.as_slice() {
             if operation.command.is(command) {
@@ -128,13 +136,14 @@ struct Parts<'a> {
 
 #[tactic(auto, unfolding(crate::specs::Models::parts_of))]
 fn parts_of(alloc: Global, doc: &Doc) -> Result<Parts<'_>, ModelFault>
-    ensures { Gives (λ parts. (parts.metadata.now, parts.operations.now, parts.shapes.now)) (parts_of doc.now) result }
+    ensures parts { Gives (λ parts. (parts.metadata.now, parts.operations.now, parts.shapes.now)) (parts_of doc.now) result }
+    ensures distinct { IfOk result (λ parts. IsDistinct (keys parts.shapes.now)) }
 {
-    let fields = object(alloc, doc)?;
+    let fields = object(doc)?;
     let metadata = object_at(alloc, fields, "metadata")?;
     let operations = object_at(alloc, fields, "operations")?;
     let shapes = object_at(alloc, fields, "shapes")?;
-    if shapes.len() > MOST_SHAPES {
+    if shapes.as_slice().len() > MOST_SHAPES {
         return Err(wrong(alloc, "shapes"));
     }
     Ok(Parts {
@@ -144,17 +153,15 @@ fn parts_of(alloc: Global, doc: &Doc) -> Result<Parts<'_>, ModelFault>
     })
 }
 
+#[tactic(auto, using(model_files::proofs::Each::gives_inside))]
 fn read_described(alloc: Global, fields: &Pairs<Doc>) -> Result<Described, ModelFault>
     ensures { Gives (λ described. described) (inside (codes "metadata") (metadata_of fields.now)) result }
 {
-    match read_metadata(alloc, fields) {
-        Ok(described) => Ok(described),
-        Err(fault) => Err(move_below(alloc, "metadata", fault)),
-    }
+    inside(alloc, "metadata", read_metadata(alloc, fields))
 }
 
 /// Reads operations, then shapes.
-#[tactic(auto, unfolding(crate::specs::Models::entries_of))]
+#[tactic(auto, using(model_files::proofs::Each::gives_inside), unfolding(crate::specs::Models::entries_of))]
 fn read_entries(
     alloc: Global,
     parts: &Parts,
@@ -169,12 +176,8 @@ fn read_entries(
         shapes: parts.shapes,
         signs_by_v4,
     };
-    let rows = match read_operations(alloc, &service, parts.operations) {
-        Ok(rows) => rows,
-        Err(fault) => return Err(move_below(alloc, "operations", fault)),
-    };
-    match read_shapes(alloc, &names, parts.shapes) {
-        Ok(shapes) => Ok((rows, shapes)),
-        Err(fault) => Err(move_below(alloc, "shapes", fault)),
-    }
+    let operations = read_operations(alloc, &service, parts.operations);
+    let rows = inside(alloc, "operations", operations)?;
+    let shapes = inside(alloc, "shapes", read_shapes(alloc, &names, parts.shapes))?;
+    Ok((rows, shapes))
 }

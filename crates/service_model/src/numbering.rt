@@ -1,8 +1,9 @@
 //! The numbers of shapes, by their names, with what a reference to a shape needs to know of it.
 ghost use Rattle.std.specs.Prelude.{◌≡◌, ◌<◌, ◌^◌, IsTrue, IfOk, length, codes};
 ghost use Rattle.std.specs.Option.{option_copied};
-ghost use Rattle.json_doc.specs.Ascii.{is_ascii_text};
+ghost use Rattle.texts.specs.Ascii.{is_ascii_text};
 ghost use Rattle.model_files.specs.declared.fault.ModelFault.TheVariants as fault;
+ghost use Rattle.model_files.specs.declared.fault.Place.TheVariants as place;
 ghost use Rattle.model_files.specs.Faults.{IsFault, Gives};
 ghost use Rattle.service_model.specs.Numbering.{value_in, text_if, text_in, kind_of, named_at, item_of, outline_of, names_of, kind_at, item_outline, reference, reference_in, structure_in, string_in};
 
@@ -10,7 +11,7 @@ use crate::choices::kind_named;
 use crate::{Kind, ShapeId};
 use indexmap::IndexMap;
 use json_doc::{Doc, OutOfMemory, Pairs, Text};
-use model_files::{ModelFault, ascii_text, copied, object, text_at, wrong};
+use model_files::{ModelFault, Place, ascii_text, copied, object, text_at, wrong};
 use std::alloc::Global;
 
 /// What a reference to a shape needs to know before the shape is read. Both are absent where the
@@ -118,10 +119,10 @@ pub fn reference(alloc: Global, names: &Names, fields: &Pairs<Doc>) -> Result<Sh
 
 /// The fault of a name at `shape` that no shape has.
 fn unknown(alloc: Global) -> ModelFault
-    ensures { IsFault result (fault.UnknownShape (codes "shape")) }
+    ensures { IsFault result (fault.UnknownShape (place.At (codes "shape"))) }
 {
     match ascii_text(alloc, "shape") {
-        Ok(place) => ModelFault::UnknownShape(place),
+        Ok(key) => ModelFault::UnknownShape(Place::At(key)),
         Err(_) => ModelFault::OutOfMemory,
     }
 }
@@ -132,7 +133,7 @@ pub fn reference_in(alloc: Global, names: &Names, doc: &Doc) -> Result<ShapeId, 
     requires { length names.now.entries < 2 ^ 32 }
     ensures { Gives (λ x. x) (reference_in names.now.entries doc.now) result }
 {
-    let fields = object(alloc, doc)?;
+    let fields = object(doc)?;
     reference(alloc, names, fields)
 }
 

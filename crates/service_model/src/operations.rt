@@ -1,7 +1,7 @@
 //! The operations of a model, as they stand in its file.
 ghost use Rattle.std.specs.Prelude.{◌≡◌, ◌<◌, ◌^◌, [], IsTrue, length};
 ghost use Rattle.std.specs.Option.{option_copied};
-ghost use Rattle.json_doc.specs.Ascii.{is_ascii_text};
+ghost use Rattle.texts.specs.Ascii.{is_ascii_text};
 ghost use Rattle.model_files.specs.Faults.{Gives};
 ghost use Rattle.service_model.specs.Operations.{command_of, fields_if, input_members, uri_of, method_and_uri, http_of, structure_at, endpoint_prefix, host_prefix_of, true_below, is_true_below, needs_checksum, needs_discovery, operation_of, operations_of};
 
@@ -14,8 +14,8 @@ use crate::signing::read_signing;
 use indexmap::IndexSet;
 use json_doc::{Doc, List, Pairs, Text};
 use model_files::{
-    ModelFault, ascii_text, command_name, copied, is_true_at, maybe_object, maybe_text,
-    missing_below, move_below, object, text_at, wrong,
+    ModelFault, Place, ascii_text, command_name, copied, inside, is_true_at, maybe_object,
+    maybe_text, missing_below, object, text_at, wrong,
 };
 use std::alloc::Global;
 
@@ -61,13 +61,10 @@ pub fn read_operations(
     let mut rows = Vec::with_capacity(alloc, pairs.len())?;
     let mut commands = IndexSet::new(alloc);
     for pair in pairs.as_slice() {
-        match read_operation(alloc, service, &commands, &pair.value) {
-            Ok(row) => {
-                commands.insert(row.command.copy(alloc)?)?;
-                rows.push(row)?;
-            }
-            Err(fault) => return Err(move_below(alloc, pair.key.as_str(), fault)),
-        }
+        let read = read_operation(alloc, service, &commands, &pair.value);
+        let row = inside(alloc, pair.key.as_str(), read)?;
+        commands.insert(row.command.copy(alloc)?)?;
+        rows.push(row)?;
     }
     Ok(rows)
 }
@@ -82,7 +79,7 @@ fn read_operation(
     requires { length service.now.names.now.entries < 2 ^ 32 }
     ensures { Gives (λ x. x) (operation_of service.now.names.now.entries service.now.shapes.now service.now.signs_by_v4 commands.now.keys doc.now) result }
 {
-    let fields = object(alloc, doc)?;
+    let fields = object(doc)?;
     let name = text_at(alloc, fields, "name")?;
     let command = read_command(alloc, commands, name)?;
     let (method, uri) = read_http(alloc, service, fields)?;
@@ -115,7 +112,7 @@ fn read_command(alloc: Global, commands: &IndexSet<Text>, name: &Text) -> Result
     let command = command_name(alloc, name)?;
     if commands.contains(&command) {
         return match ascii_text(alloc, "name") {
-            Ok(place) => Err(ModelFault::Collides(place)),
+            Ok(key) => Err(ModelFault::Collides(Place::At(key))),
             Err(_) => Err(ModelFault::OutOfMemory),
         };
     }
@@ -123,7 +120,7 @@ fn read_command(alloc: Global, commands: &IndexSet<Text>, name: &Text) -> Result
 }
 
 /// The method of HTTP and the URI.
-#[tactic(auto, unfolding(crate::specs::Operations::http_of))]
+#[tactic(auto, using(model_files::proofs::Each::gives_inside), unfolding(crate::specs::Operations::http_of))]
 fn read_http<'a>(
     alloc: Global,
     service: &Service,
@@ -134,10 +131,7 @@ fn read_http<'a>(
     let Some(http) = maybe_object(alloc, fields, "http")? else {
         return Err(missing_below(alloc, "http", "method"));
     };
-    match method_and_uri(alloc, service, fields, http) {
-        Ok(parts) => Ok(parts),
-        Err(fault) => Err(move_below(alloc, "http", fault)),
-    }
+    inside(alloc, "http", method_and_uri(alloc, service, fields, http))
 }
 
 #[tactic(auto, unfolding(crate::specs::Operations::method_and_uri))]
@@ -175,7 +169,7 @@ fn labelled_uri<'a>(
 }
 
 /// The prefix of the host, each of whose labels names a member of the input that stands there.
-#[tactic(auto, unfolding(crate::specs::Operations::host_prefix_of))]
+#[tactic(auto, using(model_files::proofs::Each::gives_inside), unfolding(crate::specs::Operations::host_prefix_of))]
 fn read_host_prefix<'a>(
     alloc: Global,
     service: &Service,
@@ -186,10 +180,11 @@ fn read_host_prefix<'a>(
     let Some(endpoint) = maybe_object(alloc, fields, "endpoint")? else {
         return Ok(None);
     };
-    match labelled_prefix(alloc, service, fields, endpoint) {
-        Ok(prefix) => Ok(prefix),
-        Err(fault) => Err(move_below(alloc, "endpoint", fault)),
-    }
+    inside(
+        alloc,
+        "endpoint",
+        labelled_prefix(alloc, service, fields, endpoint),
+    )
 }
 
 #[tactic(auto, unfolding(crate::specs::Operations::endpoint_prefix))]
@@ -239,7 +234,7 @@ fn fields_if(doc: &Doc) -> Option<&Pairs<Doc>>
 }
 
 /// The structure that is named at `input` or `output`, where there is one.
-#[tactic(auto, unfolding(crate::specs::Operations::structure_at))]
+#[tactic(auto, using(model_files::proofs::Each::gives_inside), unfolding(crate::specs::Operations::structure_at))]
 fn read_structure(
     alloc: Global,
     names: &Names,
@@ -253,10 +248,8 @@ fn read_structure(
     let Some(doc) = fields.get(key) else {
         return Ok(None);
     };
-    match structure_in(alloc, names, doc) {
-        Ok(id) => Ok(Some(id)),
-        Err(fault) => Err(move_below(alloc, key, fault)),
-    }
+    let id = inside(alloc, key, structure_in(alloc, names, doc))?;
+    Ok(Some(id))
 }
 
 /// Whether a request must have a checksum.

@@ -1,7 +1,7 @@
 //! The shapes of a model.
 ghost use Rattle.std.specs.Prelude.{◌≡◌, ◌<◌, ◌^◌, ℕ, List as Seq, IsTrue, IfOk, bytes_eq, length};
 ghost use Rattle.std.specs.List.{list_any};
-ghost use Rattle.json_doc.specs.Ascii.{is_ascii_text};
+ghost use Rattle.texts.specs.Ascii.{is_ascii_text};
 ghost use Rattle.model_files.specs.Faults.{each_from, Gives};
 ghost use Rattle.service_model.specs.Shapes.{kind_of_shape, names_member, names_in, name_among, member_list, required_of, payload_of, structure_of, structure_if, part_at, key_at, key_if, item_if, whole, least_of, shape_of, shapes_of};
 
@@ -12,7 +12,7 @@ use crate::{Kind, Member, Shape, ShapeId};
 use indexmap::IndexSet;
 use json_doc::{Decimal, Doc, List, OutOfMemory, Pair, Pairs, Text};
 use model_files::{
-    ModelFault, flag_at, items, maybe_text, missing_below, move_below, move_to, object, object_at,
+    ModelFault, flag_at, inside, items, maybe_text, missing_below, move_to, object, object_at,
     text, text_at, wrong, wrong_kind,
 };
 use std::alloc::Global;
@@ -28,10 +28,8 @@ pub fn read_shapes(
 {
     let mut shapes = Vec::with_capacity(alloc, pairs.len())?;
     for pair in pairs.as_slice() {
-        match read_shape(alloc, names, pair) {
-            Ok(shape) => shapes.push(shape)?,
-            Err(fault) => return Err(move_below(alloc, pair.key.as_str(), fault)),
-        }
+        let shape = inside(alloc, pair.key.as_str(), read_shape(alloc, names, pair))?;
+        shapes.push(shape)?;
     }
     Ok(List::from_vec(shapes))
 }
@@ -41,7 +39,7 @@ fn read_shape(alloc: Global, names: &Names, pair: &Pair<Doc>) -> Result<Shape, M
     requires { length names.now.entries < 2 ^ 32 }
     ensures { Gives (λ x. x) (shape_of names.now.entries pair.now) result }
 {
-    let fields = object(alloc, &pair.value)?;
+    let fields = object(&pair.value)?;
     let kind = read_kind(alloc, fields)?;
     let structure = read_structure_of(alloc, names, fields, kind)?;
     let key = read_key_of(alloc, names, fields, kind)?;
@@ -111,7 +109,7 @@ fn read_structure_of(
     }
 }
 
-#[tactic(auto, unfolding(crate::specs::Shapes::structure_of))]
+#[tactic(auto, using(model_files::proofs::Each::gives_inside), unfolding(crate::specs::Shapes::structure_of))]
 fn read_structure(
     alloc: Global,
     names: &Names,
@@ -121,10 +119,7 @@ fn read_structure(
     ensures { Gives (λ x. x) (structure_of names.now.entries fields.now) result }
 {
     let pairs = object_at(alloc, fields, "members")?;
-    let members = match read_members(alloc, names, pairs) {
-        Ok(members) => members,
-        Err(fault) => return Err(move_below(alloc, "members", fault)),
-    };
+    let members = inside(alloc, "members", read_members(alloc, names, pairs))?;
     let required = read_required(alloc, fields, &members)?;
     let payload = read_payload(alloc, fields, &members)?;
     let is_union = flag_at(alloc, fields, "union")?;
@@ -143,7 +138,7 @@ fn read_structure(
 }
 
 /// The names of the members that a value must have; each names a member.
-#[tactic(auto, unfolding(crate::specs::Shapes::required_of))]
+#[tactic(auto, using(model_files::proofs::Each::gives_inside), unfolding(crate::specs::Shapes::required_of))]
 fn read_required(
     alloc: Global,
     fields: &Pairs<Doc>,
@@ -154,10 +149,7 @@ fn read_required(
     let Some(doc) = fields.get("required") else {
         return Ok(List::new(alloc));
     };
-    match member_list(alloc, doc, members) {
-        Ok(required) => Ok(required),
-        Err(fault) => Err(move_below(alloc, "required", fault)),
-    }
+    inside(alloc, "required", member_list(alloc, doc, members))
 }
 
 /// A list of names of members.
@@ -165,7 +157,7 @@ fn read_required(
 fn member_list(alloc: Global, doc: &Doc, members: &List<Member>) -> Result<List<Text>, ModelFault>
     ensures { Gives (λ x. x) (member_list members.now doc.now) result }
 {
-    let items = items(alloc, doc)?;
+    let items = items(doc)?;
     let names = member_names(alloc, members.as_slice())?;
     names_listed(alloc, items.as_slice(), &names)
 }
@@ -197,11 +189,11 @@ fn name_among<'a>(
 ) -> Result<&'a Text, ModelFault>
     ensures { Gives (λ name. name.now) (name_among names.now.keys doc.now) result }
 {
-    let name = text(alloc, doc)?;
+    let name = text(doc)?;
     if names.contains(name) {
         Ok(name)
     } else {
-        Err(wrong_kind(alloc))
+        Err(wrong_kind())
     }
 }
 
@@ -283,7 +275,7 @@ fn read_key_of(
     }
 }
 
-#[tactic(auto, unfolding(crate::specs::Shapes::part_at))]
+#[tactic(auto, using(model_files::proofs::Each::gives_inside), unfolding(crate::specs::Shapes::part_at))]
 fn read_part(
     alloc: Global,
     names: &Names,
@@ -297,14 +289,11 @@ fn read_part(
     let Some(doc) = fields.get(key) else {
         return Err(missing_below(alloc, key, "shape"));
     };
-    match reference_in(alloc, names, doc) {
-        Ok(id) => Ok(id),
-        Err(fault) => Err(move_below(alloc, key, fault)),
-    }
+    inside(alloc, key, reference_in(alloc, names, doc))
 }
 
 /// Keys of maps are strings.
-#[tactic(auto, unfolding(crate::specs::Shapes::key_at))]
+#[tactic(auto, using(model_files::proofs::Each::gives_inside), unfolding(crate::specs::Shapes::key_at))]
 fn read_key(alloc: Global, names: &Names, fields: &Pairs<Doc>) -> Result<ShapeId, ModelFault>
     requires { length names.now.entries < 2 ^ 32 }
     ensures { Gives (λ x. x) (key_at names.now.entries fields.now) result }
@@ -312,10 +301,7 @@ fn read_key(alloc: Global, names: &Names, fields: &Pairs<Doc>) -> Result<ShapeId
     let Some(doc) = fields.get("key") else {
         return Err(missing_below(alloc, "key", "shape"));
     };
-    match string_in(alloc, names, doc) {
-        Ok(id) => Ok(id),
-        Err(fault) => Err(move_below(alloc, "key", fault)),
-    }
+    inside(alloc, "key", string_in(alloc, names, doc))
 }
 
 /// The least length or value: a whole number in 64 bits, else it is ignored.

@@ -1,7 +1,7 @@
 use Rattle.std.proofs.Common.{nat_eq, sym, ap, subst, ◌∙◌}
 use Rattle.std.specs.Cmp.Lexicographic.{pointwise}
 use Rattle.indexmap.specs.IndexMap.{insert_entry}
-use Rattle.json_doc.specs.Keys.{keys, IsDistinct}
+use Rattle.texts.specs.Keys.{keys, IsDistinct}
 use Rattle.service_model.proofs.Numbers.{names_go}
 use Rattle.service_model.proofs.numbering.number_shapes.Goals as goal
 

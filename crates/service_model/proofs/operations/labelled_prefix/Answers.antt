@@ -1,6 +1,7 @@
 use Rattle.std.proofs.Common.{codes, Some, Ok, ap, sym, ◌∙◌}
 use Rattle.std.specs.Option.{option_copied}
 use Rattle.model_files.specs.declared.fault.ModelFault.TheVariants.{WrongKind}
+use Rattle.model_files.specs.declared.fault.Place.TheVariants.{At}
 use Rattle.model_files.specs.Faults.{demand}
 use Rattle.model_files.proofs.Each.{fails_same}
 use Rattle.service_model.specs.declared.labelled.LabelUse.TheVariants.{Host}
@@ -14,7 +15,7 @@ pub returns-then-branch : goal.returns-then-branch
 unfolding endpoint_prefix
 returns-then-branch c =
     then_gives _ _ _ _ c.in_ok-prefix.ensures
-    (ap (λ o. prefix_in (input_members c.args.service.now.names.now.entries c.args.service.now.shapes.now c.args.fields.now) (option_copied o)) c.in-Some.is ∙ ap (λ b. demand b (WrongKind (codes "hostPrefix")) (Ok (Some c.in-Some.prefix.now)))
+    (ap (λ o. prefix_in (input_members c.args.service.now.names.now.entries c.args.service.now.shapes.now c.args.fields.now) (option_copied o)) c.in-Some.is ∙ ap (λ b. demand b (WrongKind (At (codes "hostPrefix"))) (Ok (Some c.in-Some.prefix.now)))
     (named_as Host (option_copied c.input_members-members.result) (input_members c.args.service.now.names.now.entries c.args.service.now.shapes.now c.args.fields.now) c.as_slice.result.now (labels c.in-Some.prefix.now) c.in_ok-are_named.field-0 c.input_members-members.ensures (c.as_slice.ensures.value ∙ c.in_ok-labels.ensures) c.in_ok-are_named.ensures ∙ c.if-branch.true))
 
 pub returns : goal.returns
@@ -22,5 +23,5 @@ unfolding endpoint_prefix
 returns c =
     then_fails _ _ _ c.wrong.result c.in_ok-prefix.ensures
     (fails_same c.wrong.result _ _ (sym (ap (λ o. prefix_in (input_members c.args.service.now.names.now.entries c.args.service.now.shapes.now c.args.fields.now) (option_copied o)) c.in-Some.is))
-    (demand_fails (are_named Host (input_members c.args.service.now.names.now.entries c.args.service.now.shapes.now c.args.fields.now) (labels c.in-Some.prefix.now)) c.wrong.result (WrongKind (codes "hostPrefix")) (Ok (Some c.in-Some.prefix.now))
+    (demand_fails (are_named Host (input_members c.args.service.now.names.now.entries c.args.service.now.shapes.now c.args.fields.now) (labels c.in-Some.prefix.now)) c.wrong.result (WrongKind (At (codes "hostPrefix"))) (Ok (Some c.in-Some.prefix.now))
     (named_as Host (option_copied c.input_members-members.result) (input_members c.args.service.now.names.now.entries c.args.service.now.shapes.now c.args.fields.now) c.as_slice.result.now (labels c.in-Some.prefix.now) c.in_ok-are_named.field-0 c.input_members-members.ensures (c.as_slice.ensures.value ∙ c.in_ok-labels.ensures) c.in_ok-are_named.ensures ∙ c.if-branch.false) c.wrong.ensures))

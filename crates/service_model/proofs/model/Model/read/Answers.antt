@@ -12,23 +12,23 @@ pub returns-in_err-parts : goal.returns-in_err-parts
 unfolding draft_of
 returns-in_err-parts c =
     reads_fault c.args.doc.now c.from_residual.result c.in_err-parts.field-0.0 (came c.from_residual.result c.in_err-parts.field-0.0 c.from_residual.ensures)
-    (fails_first c.in_err-parts.field-0.0 _ _ c.in_err-parts.ensures)
+    (fails_first c.in_err-parts.field-0.0 _ _ c.in_err-parts.ensures.parts)
 
 pub returns-in_err-described : goal.returns-in_err-described
 unfolding draft_of
 returns-in_err-described c =
     reads_fault c.args.doc.now c.from_residual-in_err-described.result c.in_err-described.field-0.0 (came c.from_residual-in_err-described.result c.in_err-described.field-0.0 c.from_residual-in_err-described.ensures)
-    (then_fails _ _ _ c.in_err-described.field-0.0 c.in_ok-parts.ensures (fails_first c.in_err-described.field-0.0 _ _ c.in_err-described.ensures))
+    (then_fails _ _ _ c.in_err-described.field-0.0 c.in_ok-parts.ensures.parts (fails_first c.in_err-described.field-0.0 _ _ c.in_err-described.ensures))
 
 pub read_entries-requires : goal.read_entries-requires
 read_entries-requires c =
-    few_enough _ (few_shapes c.args.doc.now c.in_ok-parts.parts.metadata.now c.in_ok-parts.parts.operations.now c.in_ok-parts.parts.shapes.now c.in_ok-parts.ensures)
+    few_enough _ (few_shapes c.args.doc.now c.in_ok-parts.parts.metadata.now c.in_ok-parts.parts.operations.now c.in_ok-parts.parts.shapes.now c.in_ok-parts.ensures.parts)
 
 pub returns-in_err-rows : goal.returns-in_err-rows
 unfolding draft_of
 returns-in_err-rows c =
     reads_fault c.args.doc.now c.from_residual-in_err-rows.result c.in_err-rows.field-0.0 (came c.from_residual-in_err-rows.result c.in_err-rows.field-0.0 c.from_residual-in_err-rows.ensures)
-    (then_fails _ _ _ c.in_err-rows.field-0.0 c.in_ok-parts.ensures (then_fails _ _ _ c.in_err-rows.field-0.0 c.in_ok-described.ensures (fails_first c.in_err-rows.field-0.0 _ _ c.in_err-rows.ensures)))
+    (then_fails _ _ _ c.in_err-rows.field-0.0 c.in_ok-parts.ensures.parts (then_fails _ _ _ c.in_err-rows.field-0.0 c.in_ok-described.ensures (fails_first c.in_err-rows.field-0.0 _ _ c.in_err-rows.ensures)))
 
 pub admit_operations-requires-clause-parts : goal.admit_operations-requires-clause-parts
 admit_operations-requires-clause-parts c =
@@ -44,7 +44,8 @@ pub invariant_of-result : goal.invariant_of-result
 invariant_of-result c =
     sound_table c.in_ok-described.described.metadata.protocol c.in_ok-parts.parts.shapes.now c.in_ok-rows.rows.items
     (record { metadata = c.in_ok-described.described.metadata; shapes = c.in_ok-rows.shapes; operations = c.in_ok-operations.operations })
-    (few_shapes c.args.doc.now c.in_ok-parts.parts.metadata.now c.in_ok-parts.parts.operations.now c.in_ok-parts.parts.shapes.now c.in_ok-parts.ensures)
+    (few_shapes c.args.doc.now c.in_ok-parts.parts.metadata.now c.in_ok-parts.parts.operations.now c.in_ok-parts.parts.shapes.now c.in_ok-parts.ensures.parts)
+    c.in_ok-parts.ensures.distinct
     (sound_entries c.in_ok-described.described.signs_by_v4 c.in_ok-parts.parts.operations.now c.in_ok-parts.parts.shapes.now c.in_ok-rows.rows.items c.in_ok-rows.shapes c.in_ok-rows.ensures)
     (subst (λ shapes. AllZip (IsAdmitted c.in_ok-described.described.metadata.protocol shapes) c.in_ok-rows.rows.items c.in_ok-operations.operations) c.as_slice.ensures c.in_ok-operations.ensures)
 
@@ -52,6 +53,6 @@ pub returns : goal.returns
 unfolding draft_of
 returns c = (
   (c.in_ok-described.described, (c.in_ok-rows.rows.items, c.in_ok-rows.shapes)),
-  then_gives _ _ _ _ c.in_ok-parts.ensures (then_gives _ _ _ _ c.in_ok-described.ensures (then_gives _ _ _ _ c.in_ok-rows.ensures refl)),
+  then_gives _ _ _ _ c.in_ok-parts.ensures.parts (then_gives _ _ _ _ c.in_ok-described.ensures (then_gives _ _ _ _ c.in_ok-rows.ensures refl)),
   (refl, refl, (subst (λ shapes. AllZip (IsAdmitted c.in_ok-described.described.metadata.protocol shapes) c.in_ok-rows.rows.items c.in_ok-operations.operations) c.as_slice.ensures c.in_ok-operations.ensures)),
 )

@@ -5,11 +5,13 @@ use Rattle.std.proofs.lemmas.Option.{same_Some}
 use Rattle.json_doc.specs.declared.doc.Doc.{Doc}
 use Rattle.json_doc.specs.declared.doc.Doc.TheOpen.{Doc-F}
 use Rattle.json_doc.specs.declared.doc.Doc.TheViews.{out-Doc}
-use Rattle.json_doc.specs.declared.pairs.Pair.{Pair}
-use Rattle.json_doc.specs.Keys.{value_at}
+use Rattle.texts.specs.declared.pairs.Pair.{Pair}
+use Rattle.texts.specs.Keys.{value_at}
 use Rattle.model_files.specs.declared.fault.ModelFault.{ModelFault}
 use Rattle.model_files.specs.declared.fault.ModelFault.TheVariants.{Missing}
-use Rattle.model_files.specs.Faults.{◌>>=◌, inside, demand, or_fault, each}
+use Rattle.model_files.specs.declared.fault.Place.TheVariants.{At}
+use Rattle.model_files.specs.Faults.{inside, demand, or_fault, each}
+use Rattle.texts.specs.Calls.{◌>>=◌}
 use Rattle.model_files.specs.Reading.{Fields, fields_in, fields_of, text_in, text_of, needed, text_at}
 
 pub same_ok : {A : Type 0} (x y : A) → ◌≡◌ {A = Result A ModelFault} (Ok x) (Ok y) → x ≡ y
@@ -58,7 +60,7 @@ text_ok doc text e = text_view (out-Doc doc) text e
 
 pub needed_ok : (key : List ℕ) (fields : Fields) (doc : Doc) → needed key fields ≡ Ok doc → value_at key fields ≡ Some doc
 unfolding needed
-needed_ok key fields doc e = or_fault_ok (Missing key) (value_at key fields) doc e
+needed_ok key fields doc e = or_fault_ok (Missing (At key)) (value_at key fields) doc e
 
 -- the text at a key is a text at that key
 pub text_at_ok : {P : Type 0} (key : List ℕ) (fields : Fields) (text : List ℕ) → text_at key fields ≡ Ok text
