@@ -1,8 +1,8 @@
 -- What is in the grammar is read from the left, where what stands behind it goes on with nothing.
-use Rattle.std.proofs.Common.{◌≡◌, ◌==◌, ℕ, ◌+◌, ◌<◌, Bool, true, false, if◌then◌else◌, List, [], ◌∷◌, ◌++◌, length, Option, Some, None, Ok, Err, refl, sym, ap, subst, append_assoc, append-nil, arith}
-use Rattle.std.proofs.lemmas.Bool.{ne_eqb}
+use Rattle.std.proofs.Common.{◌≡◌, ◌==◌, ℕ, ◌+◌, ◌<◌, Bool, true, false, if◌then◌else◌, List, [], ◌∷◌, ◌++◌, length, Option, Some, None, Ok, Err, refl, sym, ap, subst, ◌∙◌, append_assoc, append-nil, arith}
+use Rattle.std.proofs.lemmas.Bool.{ne_eqb, lt-ltb}
 use Rattle.std.specs.Prelude.{is_some}
-use Rattle.json_doc.specs.declared.pairs.Pair.{Pair}
+use Rattle.texts.specs.declared.pairs.Pair.{Pair}
 use Rattle.jmes_syntax.specs.declared.chains.Link.{Link}
 use Rattle.jmes_syntax.specs.declared.chains.Link.TheVariants as link
 use Rattle.jmes_syntax.specs.declared.expr.Argument.{Argument}
@@ -27,8 +27,8 @@ use Rattle.jmes_syntax.specs.Chains.{linked, empty_chain, with_links}
 use Rattle.jmes_syntax.specs.Functions.{name_of, arity_of}
 use Rattle.jmes_syntax.specs.Grammar.{BeginsWithElements}
 use Rattle.jmes_syntax.specs.Grammar as g
-use Rattle.jmes_syntax.specs.Scan.{comparator_at, negations_at, counted, key_at, linking, Joined, Side, Sides, Comparison, Comparisons, OperandAt, ChainAt, Links, LinkAt, First, Part, Named, Enclosed, Items, MoreItems, Members, MoreMembers, Arguments, MoreArguments, ArgumentAt}
-use Rattle.jmes_syntax.specs.Reading.{made, followed}
+use Rattle.jmes_syntax.specs.Scan.{comparator_at, negations_at, counted, key_at, opened, index_in, linking, Joined, Side, Sides, Comparison, Comparisons, OperandAt, ChainAt, Links, LinkAt, First, Part, Named, Enclosed, Items, MoreItems, Members, MoreMembers, Arguments, MoreArguments, ArgumentAt}
+use Rattle.jmes_syntax.specs.Reading.{Read, made, followed}
 use Rattle.jmes_syntax.specs.Tokens.{same_mark, behind, literal_at}
 use Rattle.jmes_syntax.specs.Trees.{mark_of, comparator_of, takes, compared, operand}
 use Rattle.jmes_syntax.proofs.Fronts.{same-mark}
@@ -128,10 +128,10 @@ abbrev StartsChain : List Token → Type 0
 StartsChain ts = (begins ts ≡ true) × (negations_at ts ≡ (0, ts))
 
 bracket_begins : {n : ℕ} {ts : List Token} {k : Link} {rest : List Token} → g.BracketSpecifier n ts k rest → StartsChain ts
-bracket_begins g.BracketSpecifier.index = (refl, refl)
-bracket_begins g.BracketSpecifier.elements = (refl, refl)
-bracket_begins (g.BracketSpecifier.slice_expression s) = (refl, refl)
-bracket_begins g.BracketSpecifier.flatten = (refl, refl)
+bracket_begins (g.BracketSpecifier.index less) = (refl, refl)
+bracket_begins (g.BracketSpecifier.elements less) = (refl, refl)
+bracket_begins (g.BracketSpecifier.slice_expression less s) = (refl, refl)
+bracket_begins (g.BracketSpecifier.flatten less) = (refl, refl)
 bracket_begins (g.BracketSpecifier.filter less e) = (refl, refl)
 
 part_begins : {n : ℕ} {ts : List Token} {s : Step Expr} {rest : List Token} → g.Part n ts s rest → StartsChain ts
@@ -190,10 +190,10 @@ comparisons_end (g.Comparisons.more_comparisons {m = m} {c = c} e a cs) ends = c
 links_end : {n : ℕ} {us : List Token} {ks : List Link} {rest : List Token} → g.Links n us ks rest → EndsAt 5 rest → behind mark.OpenGroup us ≡ None
 links_end (g.Links.no_link {ts = ts}) ends = ends-behind mark.OpenGroup ts ends
 links_end (g.Links.more_links (g.LinkAt.sub_expression p) ks) ends = refl
-links_end (g.Links.more_links (g.LinkAt.index_expression g.BracketSpecifier.index) ks) ends = refl
-links_end (g.Links.more_links (g.LinkAt.index_expression g.BracketSpecifier.elements) ks) ends = refl
-links_end (g.Links.more_links (g.LinkAt.index_expression (g.BracketSpecifier.slice_expression s)) ks) ends = refl
-links_end (g.Links.more_links (g.LinkAt.index_expression g.BracketSpecifier.flatten) ks) ends = refl
+links_end (g.Links.more_links (g.LinkAt.index_expression (g.BracketSpecifier.index less)) ks) ends = refl
+links_end (g.Links.more_links (g.LinkAt.index_expression (g.BracketSpecifier.elements less)) ks) ends = refl
+links_end (g.Links.more_links (g.LinkAt.index_expression (g.BracketSpecifier.slice_expression less s)) ks) ends = refl
+links_end (g.Links.more_links (g.LinkAt.index_expression (g.BracketSpecifier.flatten less)) ks) ends = refl
 links_end (g.Links.more_links (g.LinkAt.index_expression (g.BracketSpecifier.filter less e)) ks) ends = refl
 
 items_end : {n : ℕ} {us : List Token} {es : List Expr} {rest : List Token} → g.MoreItems n us es rest → EndsAt 1 rest → EndsAt 1 us
@@ -296,6 +296,20 @@ no_not-read n ts c rest e h = subst (λ x. ChainAt n x.1 (Ok (c, rest)) × (x.0 
 counted-ok : (f : Function) (left : ℕ) (args : List (Argument Expr)) (rest : List Token) → takes (arity_of f) (length args) ≡ true → counted f left (Ok (args, rest)) ≡ Ok (step.Call f args, rest)
 counted-ok f left args rest e = ap (λ v. if v then Ok (step.Call f args, rest) else Err (Arity left)) e
 
+-- what is read behind an opening mark, where few brackets are open
+opened-inside : {A : Type 0} (n : ℕ) (us : List Token) (o : Read A) → n < 100 → opened n us o ≡ o
+opened-inside n us o less = ap (λ v. if v then o else Err (Syntax (length us + 1))) (lt-ltb n 100 less)
+
+index_in-read : (n : ℕ) (us : List Token) (x : Step Expr × List Token) → n < 100 → index_at us ≡ Ok x → index_in n us ≡ Ok x
+index_in-read n us x less e = opened-inside n us (index_at us) less ∙ e
+
+index_link : (n : ℕ) (us : List Token) (x : Step Expr × List Token) → n < 100 → index_at us ≡ Ok x → LinkAt n (token.Mark mark.OpenBracket ∷ us) (Ok (Some (link.Step x.0, x.1)))
+index_link n us x less e = subst (λ o. LinkAt n (token.Mark mark.OpenBracket ∷ us) (linking link.Step o)) (index_in-read n us x less e) (LinkAt.index {us = us} refl)
+
+index_first : (n : ℕ) (us : List Token) (x : Step Expr × List Token) → n < 100 → begins_index us ≡ true → index_at us ≡ Ok x → First n (token.Mark mark.OpenBracket ∷ us) (Ok (link.Step x.0, x.1))
+index_first n us x less begins e =
+    subst (λ o. First n (token.Mark mark.OpenBracket ∷ us) (made link.Step o)) (index_in-read n us x less e) (First.first_index {us = us} (ap (λ v. if v then Some us else None) begins))
+
 -- a key, and the value behind its colon
 abbrev KeyvalRead : ℕ → List Token → Pair Expr → List Token → Type 0
 KeyvalRead n ts p rest = (us : List Token) × (key_at ts ≡ Ok (p.key, us)) × Joined level.Pipe n us (Ok (p.value, rest))
@@ -344,21 +358,20 @@ mutual
   link_complete (g.LinkAt.index_expression b) apart = bracket_link b
 
   bracket_link : {n : ℕ} {ts : List Token} {k : Link} {rest : List Token} → g.BracketSpecifier n ts k rest → LinkAt n ts (Ok (Some (k, rest)))
-  bracket_link (g.BracketSpecifier.index {rest = rest} {i = i}) = LinkAt.index {us = token.Number i ∷ token.Mark mark.CloseBracket ∷ rest} refl
-  bracket_link (g.BracketSpecifier.elements {rest = rest}) = LinkAt.index {us = token.Mark mark.Star ∷ token.Mark mark.CloseBracket ∷ rest} refl
-  bracket_link (g.BracketSpecifier.slice_expression {n = n} {ts = ts} {rest = rest} {s = s} h) =
-      let us = ts ++ token.Mark mark.CloseBracket ∷ rest in
-      subst (λ o. LinkAt n (token.Mark mark.OpenBracket ∷ us) (linking link.Step o)) (slice-read ts s rest h) (LinkAt.index {us = us} refl)
-  bracket_link g.BracketSpecifier.flatten = LinkAt.flatten refl
+  bracket_link (g.BracketSpecifier.index {n = n} {rest = rest} {i = i} less) = index_link n (token.Number i ∷ token.Mark mark.CloseBracket ∷ rest) (step.Index i, rest) less refl
+  bracket_link (g.BracketSpecifier.elements {n = n} {rest = rest} less) = index_link n (token.Mark mark.Star ∷ token.Mark mark.CloseBracket ∷ rest) (step.Elements, rest) less refl
+  bracket_link (g.BracketSpecifier.slice_expression {n = n} {ts = ts} {rest = rest} {s = s} less h) = index_link n (ts ++ token.Mark mark.CloseBracket ∷ rest) (s, rest) less (slice-read ts s rest h)
+  bracket_link (g.BracketSpecifier.flatten {n = n} {rest = rest} less) =
+      subst (λ o. LinkAt n (token.Mark mark.Flatten ∷ rest) (linking (λ k. k) o)) (opened-inside n rest (Ok (link.Flatten, rest)) less) (LinkAt.flatten {us = rest} refl)
   bracket_link (g.BracketSpecifier.filter less e) = LinkAt.filter refl (Enclosed.enclosed less (expression_complete e (omega arith)))
 
   bracket_first : {n : ℕ} {ts : List Token} {k : Link} {rest : List Token} → g.BracketSpecifier n ts k rest → First n ts (Ok (k, rest))
-  bracket_first (g.BracketSpecifier.index {rest = rest} {i = i}) = First.first_index {us = token.Number i ∷ token.Mark mark.CloseBracket ∷ rest} refl
-  bracket_first (g.BracketSpecifier.elements {rest = rest}) = First.first_index {us = token.Mark mark.Star ∷ token.Mark mark.CloseBracket ∷ rest} refl
-  bracket_first (g.BracketSpecifier.slice_expression {n = n} {ts = ts} {rest = rest} {s = s} h) =
-      let us = ts ++ token.Mark mark.CloseBracket ∷ rest in
-      subst (λ o. First n (token.Mark mark.OpenBracket ∷ us) (made link.Step o)) (slice-read ts s rest h) (First.first_index {us = us} (ap (λ v. if v then Some us else None) (slice-index ts s rest h)))
-  bracket_first g.BracketSpecifier.flatten = First.first_flatten refl
+  bracket_first (g.BracketSpecifier.index {n = n} {rest = rest} {i = i} less) = index_first n (token.Number i ∷ token.Mark mark.CloseBracket ∷ rest) (step.Index i, rest) less refl refl
+  bracket_first (g.BracketSpecifier.elements {n = n} {rest = rest} less) = index_first n (token.Mark mark.Star ∷ token.Mark mark.CloseBracket ∷ rest) (step.Elements, rest) less refl refl
+  bracket_first (g.BracketSpecifier.slice_expression {n = n} {ts = ts} {rest = rest} {s = s} less h) =
+      index_first n (ts ++ token.Mark mark.CloseBracket ∷ rest) (s, rest) less (slice-index ts s rest h) (slice-read ts s rest h)
+  bracket_first (g.BracketSpecifier.flatten {n = n} {rest = rest} less) =
+      subst (First n (token.Mark mark.Flatten ∷ rest)) (opened-inside n rest (Ok (link.Flatten, rest)) less) (First.first_flatten {us = rest} refl)
   bracket_first (g.BracketSpecifier.filter less e) = First.first_filter refl (Enclosed.enclosed less (expression_complete e (omega arith)))
 
   first_complete : {n : ℕ} {ts : List Token} {k : Link} {rest : List Token} → g.First n ts k rest → behind mark.OpenGroup rest ≡ None → First n ts (Ok (k, rest))

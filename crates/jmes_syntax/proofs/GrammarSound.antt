@@ -1,10 +1,10 @@
 -- What reading from the left gives is in the grammar.
 use Rattle.std.proofs.Common.{◌≡◌, ◌==◌, ℕ, ◌+◌, ◌<◌, true, false, if◌then◌else◌, List, [], ◌∷◌, ◌++◌, length, Option, Some, None, Ok, Err, refl, sym, ap, subst, ◌∙◌, append_assoc, append-nil, arith}
-use Rattle.std.proofs.lemmas.Bool.{eqb-false}
+use Rattle.std.proofs.lemmas.Bool.{eqb-false, ltb-true}
 use Rattle.std.proofs.lemmas.Result.{IfOk-weaker, IfOk-at_ok}
-use Rattle.std.specs.Prelude.{IfOk}
+use Rattle.std.specs.Prelude.{IfOk, nat_lt}
 use Rattle.json_doc.specs.declared.doc.Doc.{Doc}
-use Rattle.json_doc.specs.declared.pairs.Pair.{Pair}
+use Rattle.texts.specs.declared.pairs.Pair.{Pair}
 use Rattle.jmes_syntax.specs.declared.chains.Link.{Link}
 use Rattle.jmes_syntax.specs.declared.chains.Link.TheVariants as link
 use Rattle.jmes_syntax.specs.declared.expr.Argument.{Argument}
@@ -30,8 +30,9 @@ use Rattle.jmes_syntax.specs.Chains.{linked, empty_chain, with_links}
 use Rattle.jmes_syntax.specs.Functions.{name_of, arity_of}
 use Rattle.jmes_syntax.specs.Grammar.{optional, BeginsWithElements}
 use Rattle.jmes_syntax.specs.Grammar as g
-use Rattle.jmes_syntax.specs.Reading.{Read, ◌>>=◌, made, followed}
-use Rattle.jmes_syntax.specs.Scan.{comparator_at, negations_at, counted, before_colon, key_at, Linking, linking, Joined, Side, Sides, Comparison, Comparisons, OperandAt, ChainAt, Links, LinkAt, First, Part, Named, Enclosed, Items, MoreItems, Members, MoreMembers, Arguments, MoreArguments, ArgumentAt}
+use Rattle.jmes_syntax.specs.Reading.{Read, made, followed}
+use Rattle.texts.specs.Calls.{◌>>=◌}
+use Rattle.jmes_syntax.specs.Scan.{comparator_at, negations_at, counted, before_colon, key_at, opened, index_in, flatten_in, Linking, linking, Joined, Side, Sides, Comparison, Comparisons, OperandAt, ChainAt, Links, LinkAt, First, Part, Named, Enclosed, Items, MoreItems, Members, MoreMembers, Arguments, MoreArguments, ArgumentAt}
 use Rattle.jmes_syntax.specs.Tokens.{is_mark, behind, or_syntax, past, number_at, name_at, quoted_at, literal_at}
 use Rattle.jmes_syntax.specs.Trees.{mark_of, one_of, comparison, comparator_of, takes, member, compared, operand}
 use Rattle.jmes_syntax.proofs.Fronts.{same-mark, behind_index-bracket}
@@ -132,9 +133,9 @@ key-is (token.Literal d ∷ ts) = tt
 
 -- What stands in brackets.
 
--- behind `[` stands what this step is written by
+-- behind `[` stands what this step is written by, where it may stand there
 abbrev InBrackets : ℕ → List Token → Step Expr × List Token → Type 0
-InBrackets n us x = g.BracketSpecifier n (token.Mark mark.OpenBracket ∷ us) (link.Step x.0) x.1
+InBrackets n us x = n < 100 → g.BracketSpecifier n (token.Mark mark.OpenBracket ∷ us) (link.Step x.0) x.1
 
 abbrev Bracketed : ℕ → List Token → Read (Step Expr) → Type 0
 Bracketed n us o = IfOk o (InBrackets n us)
@@ -143,10 +144,10 @@ index-is : (n : ℕ) (us : List Token) (o : Option Whole) (vs : List Token) → 
 index-is n us None vs e = tt
 index-is n us (Some i) vs e =
     before mark.CloseBracket (step.Index i) vs (InBrackets n us)
-    (λ rest f. subst (λ ts. InBrackets n ts (step.Index i, rest)) (sym (e ∙ ap (λ ts. token.Number i ∷ ts) f)) g.BracketSpecifier.index)
+    (λ rest f. subst (λ ts. InBrackets n ts (step.Index i, rest)) (sym (e ∙ ap (λ ts. token.Number i ∷ ts) f)) (λ less. g.BracketSpecifier.index less))
 
 sliced : (n : ℕ) (ts us vs rest : List Token) (s : Step Expr) → g.SliceExpression ts s → us ≡ ts ++ vs → vs ≡ token.Mark mark.CloseBracket ∷ rest → InBrackets n us (s, rest)
-sliced n ts us vs rest s h e f = subst (λ ws. InBrackets n ws (s, rest)) (sym (e ∙ ap (λ ws. ts ++ ws) f)) (g.BracketSpecifier.slice_expression h)
+sliced n ts us vs rest s h e f = subst (λ ws. InBrackets n ws (s, rest)) (sym (e ∙ ap (λ ws. ts ++ ws) f)) (λ less. g.BracketSpecifier.slice_expression less h)
 
 positive : (k : ℕ) → k == 0 ≡ false → 0 < k
 positive k e = let ne = eqb-false k 0 e in omega arith
@@ -183,11 +184,26 @@ start-is n us start vs (Some ws) e f = slice-is n us start ws (e ∙ ap (λ xs. 
 star-is : (n : ℕ) (us : List Token) (o : Option (List Token)) → behind mark.Star us ≡ o → Bracketed n us (star_at us o)
 star-is n us (Some vs) e =
     before mark.CloseBracket step.Elements vs (InBrackets n us)
-    (λ rest f. subst (λ ts. InBrackets n ts (step.Elements, rest)) (sym (behind-is mark.Star us vs e ∙ ap (λ ts. token.Mark mark.Star ∷ ts) f)) g.BracketSpecifier.elements)
+    (λ rest f. subst (λ ts. InBrackets n ts (step.Elements, rest)) (sym (behind-is mark.Star us vs e ∙ ap (λ ts. token.Mark mark.Star ∷ ts) f)) (λ less. g.BracketSpecifier.elements less))
 star-is n us None e = let start = number_at us in start-is n us start.0 start.1 (behind mark.Colon start.1) (number-is us) refl
 
 brackets-are : (n : ℕ) (us : List Token) → Bracketed n us (index_at us)
 brackets-are n us = star-is n us (behind mark.Star us) refl
+
+-- what is read behind an opening mark is read where few brackets are open
+opened-is : {A : Type 0} (n : ℕ) (us : List Token) (o : Read A) (P : A × List Token → Type 0) → IfOk o (λ x. n < 100 → P x) → IfOk (opened n us o) P
+opened-is n us o P h =
+    elim (nat_lt n 100) as (λ v. nat_lt n 100 ≡ v → IfOk (if v then o else Err (Syntax (length us + 1))) P)
+    [ true ↦ (λ e. IfOk-weaker o (λ x. n < 100 → P x) P (λ x f. f (ltb-true n 100 e)) h) | false ↦ (λ e. tt) ] refl
+
+abbrev OpensWith : Mark → ℕ → List Token → Link × List Token → Type 0
+OpensWith m n us x = g.BracketSpecifier n (token.Mark m ∷ us) x.0 x.1
+
+index_in-is : (n : ℕ) (us : List Token) → IfOk (index_in n us) (λ x. OpensWith mark.OpenBracket n us (link.Step x.0, x.1))
+index_in-is n us = opened-is n us (index_at us) (λ x. OpensWith mark.OpenBracket n us (link.Step x.0, x.1)) (brackets-are n us)
+
+flatten_in-is : (n : ℕ) (us : List Token) → IfOk (flatten_in n us) (OpensWith mark.Flatten n us)
+flatten_in-is n us = opened-is n us (Ok (link.Flatten, us)) (OpensWith mark.Flatten n us) (λ less. g.BracketSpecifier.flatten less)
 
 -- no index stands in front, and so no `[*]`
 no_elements : (ts : List Token) → behind_index ts ≡ None → BeginsWithElements ts → ⊥
@@ -319,13 +335,14 @@ mutual
       linking-is link.Step o (λ x. g.Part n us x.0 x.1) (λ x. g.LinkAt n ts x.0 x.1)
       (λ x h. subst (λ vs. g.LinkAt n vs (link.Step x.0) x.1) (sym (behind-is mark.Dot ts us e)) (g.LinkAt.sub_expression h)) (part_sound p)
   link_sound (LinkAt.index {n = n} {ts = ts} {us = us} e) =
-      linking-is link.Step (index_at us) (InBrackets n us) (λ x. g.LinkAt n ts x.0 x.1)
-      (λ x h. subst (λ vs. g.LinkAt n vs (link.Step x.0) x.1) (sym (behind-is mark.OpenBracket ts us e)) (g.LinkAt.index_expression h)) (brackets-are n us)
+      linking-is link.Step (index_in n us) (λ x. OpensWith mark.OpenBracket n us (link.Step x.0, x.1)) (λ x. g.LinkAt n ts x.0 x.1)
+      (λ x h. subst (λ vs. g.LinkAt n vs (link.Step x.0) x.1) (sym (behind-is mark.OpenBracket ts us e)) (g.LinkAt.index_expression h)) (index_in-is n us)
   link_sound (LinkAt.filter {n = n} {ts = ts} {us = us} {o = o} e f) =
       linking-is (λ e. link.Step (step.Filter e)) o (EnclosedIs mark.CloseBracket n us) (λ x. g.LinkAt n ts x.0 x.1)
       (λ x h. subst (λ vs. g.LinkAt n vs (link.Step (step.Filter x.0)) x.1) (sym (behind-is mark.OpenFilter ts us e)) (g.LinkAt.index_expression (g.BracketSpecifier.filter h.0 h.1))) (enclosed_sound f)
   link_sound (LinkAt.flatten {n = n} {ts = ts} {us = us} e) =
-      subst (λ vs. g.LinkAt n vs link.Flatten us) (sym (behind-is mark.Flatten ts us e)) (g.LinkAt.index_expression g.BracketSpecifier.flatten)
+      linking-is (λ k. k) (flatten_in n us) (OpensWith mark.Flatten n us) (λ x. g.LinkAt n ts x.0 x.1)
+      (λ x h. subst (λ vs. g.LinkAt n vs x.0 x.1) (sym (behind-is mark.Flatten ts us e)) (g.LinkAt.index_expression h)) (flatten_in-is n us)
   link_sound (LinkAt.chain_ends a b c d) = tt
 
   enclosed_sound : {m : Mark} {n : ℕ} {ts : List Token} {o : Read Expr} → Enclosed m n ts o → IfOk o (EnclosedIs m n ts)
@@ -341,10 +358,11 @@ mutual
       made-is (λ e. link.Step (step.Filter e)) o (EnclosedIs mark.CloseBracket n us) (λ x. g.First n ts x.0 x.1)
       (λ x h. subst (λ vs. g.First n vs (link.Step (step.Filter x.0)) x.1) (sym (behind-is mark.OpenFilter ts us e)) (g.First.bracket_specifier (g.BracketSpecifier.filter h.0 h.1))) (enclosed_sound f)
   first_sound (First.first_index {n = n} {ts = ts} {us = us} e) =
-      made-is link.Step (index_at us) (InBrackets n us) (λ x. g.First n ts x.0 x.1)
-      (λ x h. subst (λ vs. g.First n vs (link.Step x.0) x.1) (sym (behind-is mark.OpenBracket ts us (behind_index-bracket ts us e))) (g.First.bracket_specifier h)) (brackets-are n us)
+      made-is link.Step (index_in n us) (λ x. OpensWith mark.OpenBracket n us (link.Step x.0, x.1)) (λ x. g.First n ts x.0 x.1)
+      (λ x h. subst (λ vs. g.First n vs (link.Step x.0) x.1) (sym (behind-is mark.OpenBracket ts us (behind_index-bracket ts us e))) (g.First.bracket_specifier h)) (index_in-is n us)
   first_sound (First.first_flatten {n = n} {ts = ts} {us = us} e) =
-      subst (λ vs. g.First n vs link.Flatten us) (sym (behind-is mark.Flatten ts us e)) (g.First.bracket_specifier g.BracketSpecifier.flatten)
+      IfOk-weaker (flatten_in n us) (OpensWith mark.Flatten n us) (λ x. g.First n ts x.0 x.1)
+      (λ x h. subst (λ vs. g.First n vs x.0 x.1) (sym (behind-is mark.Flatten ts us e)) (g.First.bracket_specifier h)) (flatten_in-is n us)
   first_sound (First.current {n = n} {ts = ts} {us = us} e) =
       subst (λ vs. g.First n vs (link.Step step.Current) us) (sym (behind-is mark.Current ts us e)) g.First.current_node
   first_sound (First.literal {n = n} {ts = ts} {us = us} {d = d} e) =

@@ -1,7 +1,9 @@
 -- What is behind a part, or left at its fault, is no longer than the part's tokens.
+use Rattle.std.specs.Prelude.{nat_lt}
 use Rattle.std.proofs.Common.{◌≡◌, ◌==◌, ℕ, ◌+◌, ◌<◌, ◌≤◌, true, false, if◌then◌else◌, List, [], ◌∷◌, length, Option, Some, None, Result, Ok, Err, refl, subst, arith}
-use Rattle.json_doc.specs.declared.pairs.Pair.{Pair}
+use Rattle.texts.specs.declared.pairs.Pair.{Pair}
 use Rattle.jmes_syntax.specs.declared.chains.Link.{Link}
+use Rattle.jmes_syntax.specs.declared.chains.Link.TheVariants as link
 use Rattle.jmes_syntax.specs.declared.expr.Argument.{Argument}
 use Rattle.jmes_syntax.specs.declared.expr.Chain.{Chain}
 use Rattle.jmes_syntax.specs.declared.expr.Compared.{Compared}
@@ -20,8 +22,9 @@ use Rattle.jmes_syntax.specs.declared.token.Token.TheVariants as token
 use Rattle.jmes_syntax.specs.declared.whole.Whole.{Whole}
 use Rattle.jmes_syntax.specs.Brackets.{closed, step_of, slice, step_at, stop_at, slice_at, only_number, start_at, star_at, index_at, begins_index, where_index, behind_index}
 use Rattle.jmes_syntax.specs.Functions.{arity_of}
-use Rattle.jmes_syntax.specs.Reading.{Read, ◌>>=◌, made, followed, or_else, left_of}
-use Rattle.jmes_syntax.specs.Scan.{comparator_at, negations_at, counted, any_name_at, before_colon, key_at, Linking, linking, Joined, Side, Sides, Comparison, Comparisons, OperandAt, ChainAt, Links, LinkAt, First, Part, Named, Enclosed, Items, MoreItems, Members, MoreMembers, Arguments, MoreArguments, ArgumentAt}
+use Rattle.jmes_syntax.specs.Reading.{Read, made, followed, or_else, left_of}
+use Rattle.texts.specs.Calls.{◌>>=◌}
+use Rattle.jmes_syntax.specs.Scan.{comparator_at, negations_at, counted, any_name_at, before_colon, key_at, opened, index_in, flatten_in, Linking, linking, Joined, Side, Sides, Comparison, Comparisons, OperandAt, ChainAt, Links, LinkAt, First, Part, Named, Enclosed, Items, MoreItems, Members, MoreMembers, Arguments, MoreArguments, ArgumentAt}
 use Rattle.jmes_syntax.specs.Trees.{comparator_of, takes}
 use Rattle.jmes_syntax.specs.Tokens.{is_mark, behind, or_syntax, past, number_at, name_at, quoted_at, literal_at}
 
@@ -221,6 +224,16 @@ linking-within f ts us (Err stop) less h = omega arith
 narrow : {A : Type 0} (us : List Token) (o : Read A) → Within us o → Behind us o
 narrow us o h = wider (length us) (length us) (length us) (length us + 1) o (omega arith) (omega arith) h
 
+-- what stands behind the mark that opens a bracket
+opened-behind : {A : Type 0} (n : ℕ) (us : List Token) (o : Read A) → Within us o → Behind us (opened n us o)
+opened-behind n us o h = elim (nat_lt n 100) as (λ v. Behind us (if v then o else Err (Syntax (length us + 1)))) [ true ↦ narrow us o h | false ↦ omega arith ]
+
+index_in-behind : (n : ℕ) (us : List Token) → Behind us (index_in n us)
+index_in-behind n us = opened-behind n us (index_at us) (index_at-within us)
+
+flatten_in-behind : (n : ℕ) (us : List Token) → Behind us (flatten_in n us)
+flatten_in-behind n us = opened-behind n us (Ok (link.Flatten, us)) (omega arith)
+
 -- what stands behind a mark
 marked : {A : Type 0} (ts us : List Token) (o : Read A) → length us < length ts → Behind us o → Within ts o
 marked ts us o less h = wider (length us) (length us + 1) (length ts) (length ts) o (omega arith) (omega arith) h
@@ -277,16 +290,16 @@ mutual
 
   pub link-within : {n : ℕ} {ts : List Token} {o : Linking} → LinkAt n ts o → LinkWithin ts o
   link-within (LinkAt.dot {ts = ts} {us = us} {o = o} e p) = linking-within _ ts us o (behind-lt mark.Dot ts us e) (narrow us o (part-within p))
-  link-within (LinkAt.index {ts = ts} {us = us} e) = linking-within _ ts us (index_at us) (behind-lt mark.OpenBracket ts us e) (narrow us (index_at us) (index_at-within us))
+  link-within (LinkAt.index {n = n} {ts = ts} {us = us} e) = linking-within _ ts us (index_in n us) (behind-lt mark.OpenBracket ts us e) (index_in-behind n us)
   link-within (LinkAt.filter {ts = ts} {us = us} {o = o} e f) = linking-within _ ts us o (behind-lt mark.OpenFilter ts us e) (enclosed-behind f)
-  link-within (LinkAt.flatten {ts = ts} {us = us} e) = behind-lt mark.Flatten ts us e
+  link-within (LinkAt.flatten {n = n} {ts = ts} {us = us} e) = linking-within _ ts us (flatten_in n us) (behind-lt mark.Flatten ts us e) (flatten_in-behind n us)
   link-within (LinkAt.chain_ends d b f g) = tt
 
   pub first-within : {n : ℕ} {ts : List Token} {o : Read Link} → First n ts o → Within ts o
   first-within (First.group {ts = ts} {us = us} {o = o} e f) = made-leaves _ (length ts) (length ts) o (marked ts us o (behind-lt mark.OpenGroup ts us e) (enclosed-behind f))
   first-within (First.first_filter {ts = ts} {us = us} {o = o} e f) = made-leaves _ (length ts) (length ts) o (marked ts us o (behind-lt mark.OpenFilter ts us e) (enclosed-behind f))
-  first-within (First.first_index {ts = ts} {us = us} e) = made-leaves _ (length ts) (length ts) (index_at us) (marked ts us (index_at us) (behind_index-lt ts us e) (narrow us (index_at us) (index_at-within us)))
-  first-within (First.first_flatten {ts = ts} {us = us} e) = omega (arith, behind-lt mark.Flatten ts us e)
+  first-within (First.first_index {n = n} {ts = ts} {us = us} e) = made-leaves _ (length ts) (length ts) (index_in n us) (marked ts us (index_in n us) (behind_index-lt ts us e) (index_in-behind n us))
+  first-within (First.first_flatten {n = n} {ts = ts} {us = us} e) = marked ts us (flatten_in n us) (behind-lt mark.Flatten ts us e) (flatten_in-behind n us)
   first-within (First.current {ts = ts} {us = us} e) = omega (arith, behind-lt mark.Current ts us e)
   first-within (First.literal {ts = ts} {us = us} {d = d} e) = omega (arith, shorter-at ts (literal_at ts) d us (literal_at-shorter ts) e)
   first-within (First.part {ts = ts} {o = o} a b c d e f p) = made-leaves _ (length ts) (length ts) o (part-within p)

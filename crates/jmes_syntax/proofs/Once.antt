@@ -1,7 +1,7 @@
 -- Reading tokens gives one outcome.
 use Rattle.std.proofs.Common.{◌≡◌, ℕ, ◌+◌, ◌<◌, ◌≤◌, List, [], ◌∷◌, ◌++◌, length, Some, None, Ok, Err, refl, ap, subst, ◌∙◌, arith}
 use Rattle.std.specs.Prelude.{MatchOption, MatchResult}
-use Rattle.json_doc.specs.declared.pairs.Pair.{Pair}
+use Rattle.texts.specs.declared.pairs.Pair.{Pair}
 use Rattle.jmes_syntax.specs.declared.chains.Link.{Link}
 use Rattle.jmes_syntax.specs.declared.chains.Link.TheVariants as link
 use Rattle.jmes_syntax.specs.declared.expr.Argument.{Argument}
@@ -19,11 +19,12 @@ use Rattle.jmes_syntax.specs.declared.stop.Stop.TheVariants as stop
 use Rattle.jmes_syntax.specs.declared.token.Mark.{Mark}
 use Rattle.jmes_syntax.specs.declared.token.Mark.TheVariants as mark
 use Rattle.jmes_syntax.specs.declared.token.Token.{Token}
-use Rattle.jmes_syntax.specs.Brackets.{closed, index_at, behind_index}
+use Rattle.jmes_syntax.specs.Brackets.{closed, behind_index}
 use Rattle.jmes_syntax.specs.Chains.{linked, empty_chain}
 use Rattle.jmes_syntax.specs.Functions.{function_named}
-use Rattle.jmes_syntax.specs.Reading.{Read, ◌>>=◌, made}
-use Rattle.jmes_syntax.specs.Scan.{comparator_at, negations_at, counted, key_at, Linking, linking, Joined, Side, Sides, Comparison, Comparisons, OperandAt, ChainAt, Links, LinkAt, First, Part, Named, Enclosed, Items, MoreItems, Members, MoreMembers, Arguments, MoreArguments, ArgumentAt}
+use Rattle.jmes_syntax.specs.Reading.{Read, made}
+use Rattle.texts.specs.Calls.{◌>>=◌}
+use Rattle.jmes_syntax.specs.Scan.{comparator_at, negations_at, counted, key_at, index_in, flatten_in, Linking, linking, Joined, Side, Sides, Comparison, Comparisons, OperandAt, ChainAt, Links, LinkAt, First, Part, Named, Enclosed, Items, MoreItems, Members, MoreMembers, Arguments, MoreArguments, ArgumentAt}
 use Rattle.jmes_syntax.specs.Trees.{mark_of, one_of, comparison, member, compared, operand}
 use Rattle.jmes_syntax.specs.Tokens.{behind, past, name_at, quoted_at, literal_at}
 use Rattle.jmes_syntax.proofs.Fronts.{other-behind, index-other, other-index, no_index, literal-behind, name-behind, quoted-behind, quoted-name}
@@ -97,9 +98,9 @@ abbrev LinkStep : ℕ → List Token → Linking → Type 0
 LinkStep n ts o = MatchOption (behind mark.Dot ts)
     (MatchOption (behind mark.OpenBracket ts)
     (MatchOption (behind mark.OpenFilter ts)
-    (MatchOption (behind mark.Flatten ts) (o ≡ Ok None) (λ us. o ≡ Ok (Some (link.Flatten, us))))
+    (MatchOption (behind mark.Flatten ts) (o ≡ Ok None) (λ us. o ≡ linking (λ k. k) (flatten_in n us)))
     (λ us. (q : Read Expr) × Enclosed mark.CloseBracket n us q × (o ≡ linking (λ e. link.Step (step.Filter e)) q)))
-    (λ us. o ≡ linking link.Step (index_at us)))
+    (λ us. o ≡ linking link.Step (index_in n us)))
     (λ us. (q : Read (Step Expr)) × Part n us q × (o ≡ linking link.Step q))
 
 link_step : {n : ℕ} {ts : List Token} {o : Linking} → LinkAt n ts o → LinkStep n ts o
@@ -117,8 +118,8 @@ FirstStep n ts o = MatchOption (behind mark.OpenGroup ts)
     (MatchOption (behind mark.Current ts)
     (MatchOption (literal_at ts) ((q : Read (Step Expr)) × Part n ts q × (o ≡ made link.Step q)) (λ x. o ≡ Ok (link.Step (step.Literal x.0), x.1)))
     (λ us. o ≡ Ok (link.Step step.Current, us)))
-    (λ us. o ≡ Ok (link.Flatten, us)))
-    (λ us. o ≡ made link.Step (index_at us)))
+    (λ us. o ≡ flatten_in n us))
+    (λ us. o ≡ made link.Step (index_in n us)))
     (λ us. (q : Read Expr) × Enclosed mark.CloseBracket n us q × (o ≡ made (λ e. link.Step (step.Filter e)) q)))
     (λ us. (q : Read Expr) × Enclosed mark.CloseGroup n us q × (o ≡ made (λ e. link.Step (step.Group e)) q))
 

@@ -9,7 +9,8 @@ use Rattle.jmes_syntax.specs.declared.stop.Stop.{Stop}
 use Rattle.jmes_syntax.specs.declared.stop.Stop.TheVariants as stop
 use Rattle.jmes_syntax.specs.declared.token.Token.{Token}
 use Rattle.jmes_syntax.specs.Lexing.{Lexes}
-use Rattle.jmes_syntax.specs.Reading.{◌>>=◌, Stops, left_of}
+use Rattle.jmes_syntax.specs.Reading.{Stops, left_of}
+use Rattle.texts.specs.Calls.{◌>>=◌}
 use Rattle.jmes_syntax.specs.Scans.{ended, Whole, left_at, Scans, IsPlaced, HasFaultIn}
 use Rattle.jmes_syntax.proofs.Lengths.{joined-within}
 use Rattle.jmes_syntax.proofs.LexLengths.{left_at-le}

@@ -9,7 +9,8 @@ use Rattle.jmes_syntax.specs.declared.token.Mark.{Mark}
 use Rattle.jmes_syntax.specs.declared.token.Mark.TheVariants as mark
 use Rattle.jmes_syntax.specs.declared.token.Token.{Token}
 use Rattle.jmes_syntax.specs.declared.whole.Whole.{Whole}
-use Rattle.jmes_syntax.specs.Reading.{Read, ◌>>=◌}
+use Rattle.jmes_syntax.specs.Reading.{Read}
+use Rattle.texts.specs.Calls.{◌>>=◌}
 use Rattle.jmes_syntax.specs.Tokens.{behind, past, number_at}
 
 -- a value before the bracket that closes

@@ -1,10 +1,10 @@
 -- The grammar of expressions (JMESPath specification, "Grammar"), under the names of its rules. A rule
 -- relates the tokens at its start, the tree that they stand for, and the tokens behind it. From the
--- loosest, the operators are `|`, `||`, `&&`, the comparators and `!`. At most 100 parentheses, lists,
--- hashes, calls and filters stand in one another: `n` counts those that are open.
+-- loosest, the operators are `|`, `||`, `&&`, the comparators and `!`. At most 100 brackets stand in one
+-- another, `()`, `[]` and `{}` of whatever rule: `n` counts those that are open.
 use Rattle.std.specs.Prelude.{◌≡◌, ℕ, ◌+◌, ◌<◌, IsTrue, List, [], ◌∷◌, ◌++◌, length, Option, None, Some, encode_utf8_all}
 use Rattle.json_doc.specs.declared.doc.Doc.{Doc}
-use Rattle.json_doc.specs.declared.pairs.Pair.{Pair}
+use Rattle.texts.specs.declared.pairs.Pair.{Pair}
 use Rattle.json_doc.specs.Scan.{skipped}
 use Rattle.jmes_syntax.specs.declared.chains.Link.{Link}
 use Rattle.jmes_syntax.specs.declared.chains.Link.TheVariants as link
@@ -103,10 +103,10 @@ mutual
 
   -- bracket-specifier = "[" (number / "*" / slice-expression) "]" / "[]" / "[?" expression "]"
   pub data BracketSpecifier : ℕ → List Token → Link → List Token → Type 0 where
-    index : {n : ℕ} {rest : List Token} {i : Whole} → BracketSpecifier n (Mark OpenBracket ∷ Number i ∷ Mark CloseBracket ∷ rest) (link.Step (step.Index i)) rest
-    elements : {n : ℕ} {rest : List Token} → BracketSpecifier n (Mark OpenBracket ∷ Mark Star ∷ Mark CloseBracket ∷ rest) (link.Step step.Elements) rest
-    slice_expression : {n : ℕ} {ts rest : List Token} {s : Step Expr} → SliceExpression ts s → BracketSpecifier n (Mark OpenBracket ∷ (ts ++ Mark CloseBracket ∷ rest)) (link.Step s) rest
-    flatten : {n : ℕ} {rest : List Token} → BracketSpecifier n (Mark Flatten ∷ rest) link.Flatten rest
+    index : {n : ℕ} {rest : List Token} {i : Whole} → n < 100 → BracketSpecifier n (Mark OpenBracket ∷ Number i ∷ Mark CloseBracket ∷ rest) (link.Step (step.Index i)) rest
+    elements : {n : ℕ} {rest : List Token} → n < 100 → BracketSpecifier n (Mark OpenBracket ∷ Mark Star ∷ Mark CloseBracket ∷ rest) (link.Step step.Elements) rest
+    slice_expression : {n : ℕ} {ts rest : List Token} {s : Step Expr} → n < 100 → SliceExpression ts s → BracketSpecifier n (Mark OpenBracket ∷ (ts ++ Mark CloseBracket ∷ rest)) (link.Step s) rest
+    flatten : {n : ℕ} {rest : List Token} → n < 100 → BracketSpecifier n (Mark Flatten ∷ rest) link.Flatten rest
     filter : {n : ℕ} {us rest : List Token} {e : Expr} → n < 100 → ExpressionAt level.Pipe (n + 1) us e (Mark CloseBracket ∷ rest) → BracketSpecifier n (Mark OpenFilter ∷ us) (link.Step (step.Filter e)) rest
 
   -- what a chain may begin with

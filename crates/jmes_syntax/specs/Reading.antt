@@ -9,12 +9,6 @@ use Rattle.jmes_syntax.specs.declared.token.Token.{Token}
 abbrev pub Read : Type 0 → Type 0
 Read A = Result (A × List Token) Stop
 
--- goes on behind what was read
-infixl 10 ◌>>=◌
-abbrev pub ◌>>=◌ : {A B : Type 0} → Result A Stop → (A → Result B Stop) → Result B Stop
-(Ok x) >>= f = f x
-(Err stop) >>= f = Err stop
-
 -- the same with another value
 abbrev pub made : {A B : Type 0} → (A → B) → Read A → Read B
 made f (Ok x) = Ok (f x.0, x.1)
@@ -33,16 +27,6 @@ Stops P OutOfMemory = Unit {0}
 Stops P (Syntax left) = P (Syntax left)
 Stops P (UnknownFunction left) = P (UnknownFunction left)
 Stops P (Arity left) = P (Arity left)
-
--- a call that takes no memory and answers this, seen by a view, gives what reading gives
-abbrev pub Gives : {X A : Type 0} → (X → A) → Result X Stop → Result A Stop → Type 0
-Gives view (Ok x) read = read ≡ Ok (view x)
-Gives view (Err stop) read = read ≡ Err stop
-
--- the same of a call that finds something or nothing
-abbrev pub Finds : {X A : Type 0} → (X → A) → Option X → Option A → Type 0
-Finds view (Some x) found = found ≡ Some (view x)
-Finds view None found = found ≡ None
 
 -- what a call found, seen by a view
 abbrev pub seen : {X A : Type 0} → (X → A) → Option X → Option A

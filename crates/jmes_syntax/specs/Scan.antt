@@ -1,9 +1,9 @@
 -- Reading an expression from the left, part by part: each part gives its value and the tokens behind it,
--- or the first fault, with how many tokens are left there. `n` counts the parentheses, lists, hashes,
--- calls and filters that are open, which are 100 at most.
-use Rattle.std.specs.Prelude.{◌≡◌, ℕ, ◌+◌, ◌<◌, ◌≤◌, if◌then◌else◌, List, [], ◌∷◌, ◌++◌, length, Option, None, Some, Result, Ok, Err}
+-- or the first fault, with how many tokens are left there. `n` counts the brackets that are open, of
+-- whatever kind, which are 100 at most.
+use Rattle.std.specs.Prelude.{◌≡◌, ℕ, ◌+◌, ◌<◌, ◌≤◌, nat_lt, if◌then◌else◌, List, [], ◌∷◌, ◌++◌, length, Option, None, Some, Result, Ok, Err}
 use Rattle.json_doc.specs.declared.doc.Doc.{Doc}
-use Rattle.json_doc.specs.declared.pairs.Pair.{Pair}
+use Rattle.texts.specs.declared.pairs.Pair.{Pair}
 use Rattle.jmes_syntax.specs.declared.chains.Link.{Link}
 use Rattle.jmes_syntax.specs.declared.chains.Link.TheVariants as link
 use Rattle.jmes_syntax.specs.declared.expr.Argument.{Argument}
@@ -27,7 +27,8 @@ use Rattle.jmes_syntax.specs.declared.token.Token.TheVariants as token
 use Rattle.jmes_syntax.specs.Brackets.{closed, index_at, behind_index}
 use Rattle.jmes_syntax.specs.Chains.{linked, empty_chain}
 use Rattle.jmes_syntax.specs.Functions.{arity_of, function_named}
-use Rattle.jmes_syntax.specs.Reading.{Read, ◌>>=◌, made, followed, or_else}
+use Rattle.jmes_syntax.specs.Reading.{Read, made, followed, or_else}
+use Rattle.texts.specs.Calls.{◌>>=◌}
 use Rattle.jmes_syntax.specs.Tokens.{is_mark, behind, past, name_at, quoted_at, literal_at}
 use Rattle.jmes_syntax.specs.Trees.{mark_of, one_of, comparison, comparator_of, takes, member, compared, operand}
 
@@ -66,6 +67,19 @@ Linking = Result (Option (Link × List Token)) Stop
 abbrev pub linking : {A : Type 0} → (A → Link) → Read A → Linking
 linking f (Ok x) = Ok (Some (f x.0, x.1))
 linking f (Err stop) = Err stop
+
+-- what stands behind the mark that opens a bracket, where fewer than 100 are open; else that mark is
+-- the fault
+abbrev pub opened : {A : Type 0} → ℕ → List Token → Read A → Read A
+opened n ts o = if nat_lt n 100 then o else Err (stop.Syntax (length ts + 1))
+
+-- an index, a slice or `*` behind `[`
+abbrev pub index_in : ℕ → List Token → Read (Step Expr)
+index_in n ts = opened n ts (index_at ts)
+
+-- behind `[]`, which opens a bracket too
+abbrev pub flatten_in : ℕ → List Token → Read Link
+flatten_in n ts = opened n ts (Ok (link.Flatten, ts))
 
 mutual
   -- sides joined by the mark of a level
@@ -111,17 +125,17 @@ mutual
   -- a dot and a part, or what stands in brackets; or the chain ends
   pub data LinkAt : ℕ → List Token → Linking → Type 0 where
     dot : {n : ℕ} {ts us : List Token} {o : Read (Step Expr)} → behind mark.Dot ts ≡ Some us → Part n us o → LinkAt n ts (linking link.Step o)
-    index : {n : ℕ} {ts us : List Token} → behind mark.OpenBracket ts ≡ Some us → LinkAt n ts (linking link.Step (index_at us))
+    index : {n : ℕ} {ts us : List Token} → behind mark.OpenBracket ts ≡ Some us → LinkAt n ts (linking link.Step (index_in n us))
     filter : {n : ℕ} {ts us : List Token} {o : Read Expr} → behind mark.OpenFilter ts ≡ Some us → Enclosed mark.CloseBracket n us o → LinkAt n ts (linking (λ e. link.Step (step.Filter e)) o)
-    flatten : {n : ℕ} {ts us : List Token} → behind mark.Flatten ts ≡ Some us → LinkAt n ts (Ok (Some (link.Flatten, us)))
+    flatten : {n : ℕ} {ts us : List Token} → behind mark.Flatten ts ≡ Some us → LinkAt n ts (linking (λ k. k) (flatten_in n us))
     chain_ends : {n : ℕ} {ts : List Token} → behind mark.Dot ts ≡ None → behind mark.OpenBracket ts ≡ None → behind mark.OpenFilter ts ≡ None → behind mark.Flatten ts ≡ None → LinkAt n ts (Ok None)
 
   -- what a chain begins with
   pub data First : ℕ → List Token → Read Link → Type 0 where
     group : {n : ℕ} {ts us : List Token} {o : Read Expr} → behind mark.OpenGroup ts ≡ Some us → Enclosed mark.CloseGroup n us o → First n ts (made (λ e. link.Step (step.Group e)) o)
     first_filter : {n : ℕ} {ts us : List Token} {o : Read Expr} → behind mark.OpenFilter ts ≡ Some us → Enclosed mark.CloseBracket n us o → First n ts (made (λ e. link.Step (step.Filter e)) o)
-    first_index : {n : ℕ} {ts us : List Token} → behind_index ts ≡ Some us → First n ts (made link.Step (index_at us))
-    first_flatten : {n : ℕ} {ts us : List Token} → behind mark.Flatten ts ≡ Some us → First n ts (Ok (link.Flatten, us))
+    first_index : {n : ℕ} {ts us : List Token} → behind_index ts ≡ Some us → First n ts (made link.Step (index_in n us))
+    first_flatten : {n : ℕ} {ts us : List Token} → behind mark.Flatten ts ≡ Some us → First n ts (flatten_in n us)
     current : {n : ℕ} {ts us : List Token} → behind mark.Current ts ≡ Some us → First n ts (Ok (link.Step step.Current, us))
     literal : {n : ℕ} {ts us : List Token} {d : Doc} → literal_at ts ≡ Some (d, us) → First n ts (Ok (link.Step (step.Literal d), us))
     part : {n : ℕ} {ts : List Token} {o : Read (Step Expr)} → behind mark.OpenGroup ts ≡ None → behind mark.OpenFilter ts ≡ None → behind_index ts ≡ None → behind mark.Flatten ts ≡ None → behind mark.Current ts ≡ None → literal_at ts ≡ None → Part n ts o → First n ts (made link.Step o)

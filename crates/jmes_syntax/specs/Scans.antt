@@ -9,7 +9,8 @@ use Rattle.jmes_syntax.specs.declared.stop.Stop.{Stop}
 use Rattle.jmes_syntax.specs.declared.stop.Stop.TheVariants as stop
 use Rattle.jmes_syntax.specs.declared.token.Token.{Token}
 use Rattle.jmes_syntax.specs.Lexing.{Lexes}
-use Rattle.jmes_syntax.specs.Reading.{Read, ◌>>=◌}
+use Rattle.jmes_syntax.specs.Reading.{Read}
+use Rattle.texts.specs.Calls.{◌>>=◌}
 use Rattle.jmes_syntax.specs.Scan.{Joined}
 
 -- an expression, behind which nothing is due

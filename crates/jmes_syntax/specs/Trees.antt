@@ -1,6 +1,6 @@
 -- What the trees of expressions are put together of, whichever way the tokens are read.
 use Rattle.std.specs.Prelude.{ℕ, ◌==◌, nat_le, Bool, List, [], ◌∷◌, Option, None, Some}
-use Rattle.json_doc.specs.declared.pairs.Pair.{Pair}
+use Rattle.texts.specs.declared.pairs.Pair.{Pair}
 use Rattle.jmes_syntax.specs.declared.expr.Chain.{Chain}
 use Rattle.jmes_syntax.specs.declared.expr.Comparator.{Comparator}
 use Rattle.jmes_syntax.specs.declared.expr.Comparator.TheVariants as comparator

@@ -1,6 +1,6 @@
 ghost use Rattle.std.specs.Prelude.{◌≡◌};
 ghost use Rattle.std.specs.Option.{option_copied};
-ghost use Rattle.jmes_syntax.specs.Reading.{Gives};
+ghost use Rattle.texts.specs.Calls.{Gives};
 ghost use Rattle.jmes_syntax.specs.Tokens.{number_at, past};
 ghost use Rattle.jmes_syntax.specs.Brackets.{begins_index, behind_index, index_at, slice_at, step_at};
 

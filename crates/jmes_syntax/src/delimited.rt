@@ -1,5 +1,5 @@
 ghost use Rattle.std.specs.Prelude.{◌≡◌, ◌++◌, false, IfOk, OnOk};
-ghost use Rattle.jmes_syntax.specs.Reading.{Finds};
+ghost use Rattle.texts.specs.Calls.{Finds};
 ghost use Rattle.jmes_syntax.specs.Delimited.{quote_byte, pair_of, delimited};
 
 use json_doc::{Bytes, OutOfMemory};

@@ -1,5 +1,5 @@
 //! What is true of every text, whichever is read.
-ghost use Rattle.std.specs.Prelude.{◌≡◌, ◌↔◌, ℕ, List, Some, Ok, encode_utf8_all};
+ghost use Rattle.std.specs.Prelude.{◌≡◌, ◌↔◌, ◌⊎◌, ℕ, List, Some, Ok, encode_utf8_all};
 ghost use Rattle.jmes_syntax.specs.declared.expr.Expr.{Expr};
 ghost use Rattle.jmes_syntax.specs.declared.function.Function.{Function};
 ghost use Rattle.jmes_syntax.specs.declared.parse_fault.ParseFault.{ParseFault};
@@ -17,6 +17,11 @@ pub fn parsing_is_unique()
     ensures expression { (text : List ℕ) (d e : Expr) → Expression text d → Expression text e → d ≡ e }
     ensures no_fault { (text : List ℕ) (e : Expr) (f : ParseFault) → Expression text e → HasFault text f → ⊥ }
     ensures fault { (text : List ℕ) (f g : ParseFault) → HasFault text f → HasFault text g → f ≡ g }
+{}
+
+/// A text is an expression or has a fault. Not both: that is unique.
+pub fn parsing_has_outcome()
+    ensures { (text : List ℕ) → ((e : Expr) × Expression text e) ⊎ ((f : ParseFault) × HasFault text f) }
 {}
 
 /// Each function is found by its name.

@@ -1,7 +1,8 @@
 ghost use Rattle.std.specs.Prelude.{◌≡◌, IfOk};
 ghost use Rattle.json_doc.specs.Scan.{skipped};
 ghost use Rattle.jmes_syntax.specs.Lexing.{kind_of, kind_at, mark_at, tokened, DelimitedAt, TokenAt, Lexes};
-ghost use Rattle.jmes_syntax.specs.Reading.{Finds, seen};
+ghost use Rattle.jmes_syntax.specs.Reading.{seen};
+ghost use Rattle.texts.specs.Calls.{Finds};
 
 use crate::delimited::{Quote, delimited};
 use crate::literals::value_token;

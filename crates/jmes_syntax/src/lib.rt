@@ -22,7 +22,7 @@ mod words;
 
 pub use expr::{Argument, Chain, Comparator, Compared, Expr, Operand, Slice, Step};
 pub use function::{Arity, Function, Parameter};
-pub use laws::{function_is_named, parsing_is_unique, reading_is_grammar};
+pub use laws::{function_is_named, parsing_has_outcome, parsing_is_unique, reading_is_grammar};
 pub use parse_fault::ParseFault;
 pub use parser::parse;
 pub use path::is_path;

@@ -4,7 +4,7 @@ ghost use Rattle.std.specs.List.{prefix_len};
 ghost use Rattle.std.specs.Str.Parse.{digits_value, AllDigits};
 ghost use Rattle.json_doc.specs.Trimmed.{IsCapped};
 ghost use Rattle.jmes_syntax.specs.Numbers.{whole_of, signed_at, number_at};
-ghost use Rattle.jmes_syntax.specs.Reading.{Finds};
+ghost use Rattle.texts.specs.Calls.{Finds};
 
 use crate::Whole;
 

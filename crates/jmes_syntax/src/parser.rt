@@ -67,6 +67,3 @@ fn offset(bytes: &[u8], lexed: &Lexed, tokens_left: usize) -> u64
 {
     (bytes.len() - bytes_left(lexed, tokens_left)) as u64
 }
-
-#[cfg(test)]
-mod tests;

@@ -1,10 +1,13 @@
 ghost use Rattle.std.specs.Prelude.{◌≡◌, ◌<◌, ◌≤◌, ◌+◌, [], IfOk, IfErr, Ok, Err};
-ghost use Rattle.jmes_syntax.specs.Reading.{Finds, Stops, seen};
+ghost use Rattle.jmes_syntax.specs.Reading.{Stops, seen};
+ghost use Rattle.texts.specs.Calls.{Finds, Gives};
 ghost use Rattle.jmes_syntax.specs.Scan.{
   comparator_at,
   negations_at,
   any_name_at,
   key_at,
+  index_in,
+  flatten_in,
   Joined,
   Side,
   Comparison,
@@ -33,7 +36,7 @@ use crate::{Argument, Arity, Chain, Comparator, Compared, Expr, Function, Operan
 use json_doc::{List, Pair, Text};
 use std::alloc::Global;
 
-/// How many parentheses, lists, hashes, calls and filters may stand in one another.
+/// How many brackets may stand in one another, `()`, `[]` and `{}` of whatever kind.
 const MOST_DEEP: usize = 100;
 
 /// The operators that join any number of sides, from the loosest.
@@ -265,11 +268,12 @@ fn read_first(alloc: Global, depth: usize, tokens: &[Token]) -> Result<(Link, &[
         return Ok((Link::Step(Step::Filter(test)), rest));
     }
     if let Some(rest) = strip_index(tokens) {
-        let (index, rest) = read_index(rest)?;
+        let (index, rest) = read_inside(depth, rest)?;
         return Ok((Link::Step(index), rest));
     }
     if let Some(rest) = strip(tokens, Mark::Flatten) {
-        return Ok((Link::Flatten, rest));
+        let (flatten, rest) = read_flatten(depth, rest)?;
+        return Ok((flatten, rest));
     }
     if let Some(rest) = strip(tokens, Mark::Current) {
         return Ok((Link::Step(Step::Current), rest));
@@ -297,7 +301,7 @@ fn read_link(
         return Ok(Some((Link::Step(step), rest)));
     }
     if let Some(rest) = strip(tokens, Mark::OpenBracket) {
-        let (index, rest) = read_index(rest)?;
+        let (index, rest) = read_inside(depth, rest)?;
         return Ok(Some((Link::Step(index), rest)));
     }
     if let Some(rest) = strip(tokens, Mark::OpenFilter) {
@@ -305,7 +309,8 @@ fn read_link(
         return Ok(Some((Link::Step(Step::Filter(test)), rest)));
     }
     if let Some(rest) = strip(tokens, Mark::Flatten) {
-        return Ok(Some((Link::Flatten, rest)));
+        let (flatten, rest) = read_flatten(depth, rest)?;
+        return Ok(Some((flatten, rest)));
     }
     Ok(None)
 }
@@ -320,6 +325,22 @@ fn deeper(depth: usize, left: usize) -> Result<usize, Stop>
     } else {
         Err(Stop::Syntax(left))
     }
+}
+
+// The index, the slice or `*` behind `[`, and what is behind its `]`.
+fn read_inside(depth: usize, tokens: &[Token]) -> Result<(Step<Expr>, &[Token]), Stop>
+    ensures { Gives (λ x. (x.0, x.1.now)) result (index_in depth tokens.now) }
+{
+    deeper(depth, tokens.len() + 1)?;
+    read_index(tokens)
+}
+
+// `[]`, which opens a bracket too, in front of these tokens.
+fn read_flatten(depth: usize, rest: &[Token]) -> Result<(Link, &[Token]), Stop>
+    ensures { Gives (λ x. (x.0, x.1.now)) result (flatten_in depth rest.now) }
+{
+    deeper(depth, rest.len() + 1)?;
+    Ok((Link::Flatten, rest))
 }
 
 // An expression up to this mark, behind the one that opens.

@@ -1,6 +1,6 @@
 ghost use Rattle.std.specs.Prelude.{◌≡◌};
 ghost use Rattle.std.specs.Option.{option_copied};
-ghost use Rattle.jmes_syntax.specs.Reading.{Finds};
+ghost use Rattle.texts.specs.Calls.{Finds};
 ghost use Rattle.jmes_syntax.specs.Tokens.{is_mark, behind, name_at, quoted_at, literal_at};
 
 use crate::Whole;

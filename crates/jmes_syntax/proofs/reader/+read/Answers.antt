@@ -7,7 +7,8 @@ use Rattle.jmes_syntax.specs.declared.reader.Level.TheVariants as level
 use Rattle.jmes_syntax.specs.declared.stop.Stop.TheVariants.{Arity}
 use Rattle.jmes_syntax.specs.declared.token.Mark.TheVariants as mark
 use Rattle.jmes_syntax.specs.Functions.{arity_of}
-use Rattle.jmes_syntax.specs.Reading.{Stops, made, ◌>>=◌}
+use Rattle.jmes_syntax.specs.Reading.{Stops, made}
+use Rattle.texts.specs.Calls.{◌>>=◌}
 use Rattle.jmes_syntax.specs.Scan.{linking, comparator_at, Joined, Side, Sides, Comparison, Comparisons, OperandAt, ChainAt, Links, LinkAt, First, Part, Named, Enclosed, Items, MoreItems, Members, MoreMembers, Arguments, MoreArguments, ArgumentAt}
 use Rattle.jmes_syntax.specs.Trees.{operand, takes}
 use Rattle.jmes_syntax.proofs.Lengths.{behind-lt, past-lt, key_at-le, shorter-at, comparator_at-shorter, joined-within, side-within, operand-within, argument-within, link-within}
@@ -143,7 +144,12 @@ pub read_link-returns-in-Some-strip-2-clause-read : goal.read_link-returns-in-So
 read_link-returns-in-Some-strip-2-clause-read t c = LinkAt.filter c.in-Some-strip-2.ensures c.in_ok-test.ensures.read
 
 pub read_link-returns-in-Some-strip-3-clause-read : goal.read_link-returns-in-Some-strip-3-clause-read
-read_link-returns-in-Some-strip-3-clause-read t c = LinkAt.flatten c.in-Some-strip-3.ensures
+read_link-returns-in-Some-strip-3-clause-read t c = subst (λ o. LinkAt c.args.depth c.args.tokens.now (linking (λ k. k) o)) c.in_ok-flatten.ensures (LinkAt.flatten c.in-Some-strip-3.ensures)
+
+pub read_link-returns-in_err-flatten-clause-fault : goal.read_link-returns-in_err-flatten-clause-fault
+read_link-returns-in_err-flatten-clause-fault t c =
+    let p = err_from_is_err_and c.from_residual-in_err-flatten.result c.from_residual-in_err-flatten.ensures.1 in
+    rw (p.1, p.2) (all_stop (λ s. LinkAt c.args.depth c.args.tokens.now (Err s)) _ (subst (λ o. LinkAt c.args.depth c.args.tokens.now (linking (λ k. k) o)) c.in_err-flatten.ensures (LinkAt.flatten c.in-Some-strip-3.ensures)))
 
 pub read_link-returns-clause-read : goal.read_link-returns-clause-read
 read_link-returns-clause-read t c = LinkAt.chain_ends c.in_default.ensures c.in_default-strip.ensures c.in_default-strip-2.ensures c.in_default-strip-3.ensures
@@ -173,7 +179,12 @@ pub read_first-returns-in-Some-strip_index-clause-read : goal.read_first-returns
 read_first-returns-in-Some-strip_index-clause-read t c = subst (λ o. First c.args.depth c.args.tokens.now (made link.Step o)) c.in_ok-index.ensures (First.first_index c.in-Some-strip_index.ensures)
 
 pub read_first-returns-in-Some-strip-2-clause-read : goal.read_first-returns-in-Some-strip-2-clause-read
-read_first-returns-in-Some-strip-2-clause-read t c = First.first_flatten c.in-Some-strip-2.ensures
+read_first-returns-in-Some-strip-2-clause-read t c = subst (First c.args.depth c.args.tokens.now) c.in_ok-flatten.ensures (First.first_flatten c.in-Some-strip-2.ensures)
+
+pub read_first-returns-in_err-flatten-clause-fault : goal.read_first-returns-in_err-flatten-clause-fault
+read_first-returns-in_err-flatten-clause-fault t c =
+    let p = err_from_is_err_and c.from_residual-in_err-flatten.result c.from_residual-in_err-flatten.ensures.1 in
+    rw (p.1, p.2) (all_stop (λ s. First c.args.depth c.args.tokens.now (Err s)) _ (subst (First c.args.depth c.args.tokens.now) c.in_err-flatten.ensures (First.first_flatten c.in-Some-strip-2.ensures)))
 
 pub read_first-returns-in-Some-strip-3-clause-read : goal.read_first-returns-in-Some-strip-3-clause-read
 read_first-returns-in-Some-strip-3-clause-read t c = First.current c.in-Some-strip-3.ensures

@@ -1,5 +1,5 @@
 use Rattle.std.proofs.Common.{ℕ, ◌+◌, ◌-◌, ◌*◌, List, [], length}
-use Rattle.json_doc.specs.declared.pairs.Pair.{Pair}
+use Rattle.texts.specs.declared.pairs.Pair.{Pair}
 use Rattle.jmes_syntax.specs.declared.expr.Argument.{Argument}
 use Rattle.jmes_syntax.specs.declared.expr.Chain.{Chain}
 use Rattle.jmes_syntax.specs.declared.expr.Compared.{Compared}
