@@ -5,8 +5,8 @@ use Rattle.std.specs.Str.{bytes_eq}
 use Rattle.std.proofs.lemmas.Option.{none-some, same_Some}
 use Rattle.std.proofs.lemmas.Slice.Eq.{bytes_eq-Decides}
 use Rattle.json_doc.specs.declared.doc.Doc.{Doc}
-use Rattle.json_doc.specs.declared.pairs.Pair.{Pair}
-use Rattle.json_doc.specs.Keys.{keys, value_at, IsNew, IsDistinct}
+use Rattle.texts.specs.declared.pairs.Pair.{Pair}
+use Rattle.texts.specs.Keys.{keys, value_at, IsNew, IsDistinct}
 
 new-at : (k : List ℕ) (ps : List (Pair Doc)) (n : ℕ) (p : Pair Doc) → IsNew k (keys ps) → slice_get ps n ≡ Some p → k ≡ p.key → ⊥
 new-at k [] n p new e same = none-some p e

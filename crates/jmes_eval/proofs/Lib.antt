@@ -1,5 +1,6 @@
 pub mod DecimalOf
 pub mod EachSo
+pub mod FirstInOrder
 pub mod Joins
 pub mod KeyOrder
 pub mod KeyPlaces
@@ -13,6 +14,8 @@ pub mod NumberTexts
 pub mod References
 pub mod SamePairs
 pub mod Segments
+pub mod SetAndGet
+pub mod Settings
 pub mod StableSorts
 pub mod Sums
 pub mod TextOrder

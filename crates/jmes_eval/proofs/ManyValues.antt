@@ -5,13 +5,14 @@ use Rattle.std.specs.List.{find}
 use Rattle.std.proofs.lemmas.Bool.{false≢true}
 use Rattle.json_doc.specs.declared.doc.Doc as doc
 use Rattle.json_doc.specs.declared.doc.Doc.{Doc}
-use Rattle.json_doc.specs.declared.pairs.Pair.{Pair}
+use Rattle.texts.specs.declared.pairs.Pair.{Pair}
 use Rattle.json_doc.specs.Grammar.{put_all}
 use Rattle.jmes_syntax.specs.declared.function.Function.{Function}
 use Rattle.jmes_syntax.specs.declared.function.Function.TheVariants as function
 use Rattle.jmes_syntax.specs.declared.function.Function.TheVariants.{Merge, NotNull}
 use Rattle.jmes_eval.specs.declared.query_fault.QueryFault.TheVariants.{TypeFault}
-use Rattle.jmes_eval.specs.Answers.{Answer, ◌>>=◌, due, all_of, in_front}
+use Rattle.jmes_eval.specs.Answers.{Answer, due, all_of, in_front}
+use Rattle.texts.specs.Calls.{◌>>=◌}
 use Rattle.jmes_eval.specs.Kinds.{fields_of, is_null}
 use Rattle.jmes_eval.specs.Lists.{all_put, not_null_of}
 use Rattle.jmes_eval.specs.Many.{first_value, merged_after}

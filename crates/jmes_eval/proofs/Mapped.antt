@@ -1,6 +1,6 @@
 -- The parts of an expression with a function at each expression in them, as the fold makes them.
 use Rattle.std.proofs.Common.{◌≡◌, List, [], ◌∷◌, map, refl, ap, ◌∙◌}
-use Rattle.json_doc.specs.declared.pairs.Pair.{Pair}
+use Rattle.texts.specs.declared.pairs.Pair.{Pair}
 use Rattle.jmes_syntax.specs.declared.expr.Argument.{Argument}
 use Rattle.jmes_syntax.specs.declared.expr.Argument.TheVariants as argument
 use Rattle.jmes_syntax.specs.declared.expr.Chain.{Chain}

@@ -5,7 +5,7 @@ use Rattle.json_doc.specs.declared.doc.Doc.{Doc, the_lemmas, out-Doc}
 use Rattle.json_doc.specs.declared.doc.Doc.TheOpen.{Doc-F}
 use Rattle.json_doc.specs.declared.doc.Doc.TheFolds.{fold-roll-Doc}
 use Rattle.json_doc.specs.declared.doc.Doc.TheVariants.{Fields, rolls-Fields}
-use Rattle.json_doc.specs.declared.pairs.Pair.{Pair}
+use Rattle.texts.specs.declared.pairs.Pair.{Pair}
 use Rattle.jmes_eval.specs.Equality.{Test, same, same_step, each_same, are_fields, has_field, has_doc_field}
 
 abbrev same_pair : Pair Doc → Pair Test

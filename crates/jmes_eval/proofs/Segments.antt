@@ -7,7 +7,8 @@ use Rattle.jmes_syntax.specs.declared.expr.Expr.{Expr}
 use Rattle.jmes_syntax.specs.declared.expr.Step.{Step}
 use Rattle.jmes_eval.specs.declared.query_fault.QueryFault.{QueryFault}
 use Rattle.jmes_eval.specs.declared.query_fault.QueryFault.TheVariants.{TypeFault, NumberTooWide, OutOfMemory}
-use Rattle.jmes_eval.specs.Answers.{Answer, ◌>>=◌, GivesBy}
+use Rattle.jmes_eval.specs.Answers.{Answer, GivesBy}
+use Rattle.texts.specs.Calls.{◌>>=◌}
 use Rattle.jmes_eval.specs.Kinds.{items_of}
 use Rattle.jmes_eval.specs.Meaning.{meaning, behind, project, run, joined_lists}
 use Rattle.jmes_eval.specs.Parts.{steps_with}

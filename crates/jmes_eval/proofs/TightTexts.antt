@@ -5,8 +5,8 @@ use Rattle.json_doc.specs.declared.doc.Doc.{Doc}
 use Rattle.json_doc.specs.declared.doc.Doc.TheOpen.{Doc-F}
 use Rattle.json_doc.specs.declared.doc.Doc.TheFolds.{fold-roll-Doc}
 use Rattle.json_doc.specs.declared.doc.Doc.TheVariants.{Fields, rolls-Fields}
-use Rattle.json_doc.specs.declared.pairs.Pair.{Pair}
-use Rattle.json_doc.specs.Joined.{joined}
+use Rattle.texts.specs.declared.pairs.Pair.{Pair}
+use Rattle.texts.specs.Joined.{joined}
 use Rattle.jmes_eval.specs.Texts.{tight_of, tight_step, tight_field, tight_pair}
 
 abbrev with_text : Pair Doc → Pair (List ℕ)

@@ -4,7 +4,7 @@ use Rattle.std.specs.Prelude.{codes}
 use Rattle.std.specs.Str.{chars}
 use Rattle.json_doc.specs.declared.doc.Doc.{Doc}
 use Rattle.json_doc.specs.declared.doc.Doc.TheOpen.{Doc-F}
-use Rattle.json_doc.proofs.Texts.{chars_ascii}
+use Rattle.texts.proofs.Texts.{chars_ascii}
 use Rattle.jmes_eval.specs.Kinds.{type_in}
 
 pub chars-type : (d : Doc-F Doc) → chars (type_in d) ≡ type_in d

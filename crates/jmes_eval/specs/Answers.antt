@@ -9,12 +9,6 @@ use Rattle.jmes_eval.specs.declared.query_fault.QueryFault.TheVariants.{TypeFaul
 abbrev pub Answer : Type 0 → Type 0
 Answer A = Result A QueryFault
 
--- goes on with the value
-infixl 10 ◌>>=◌
-abbrev pub ◌>>=◌ : {A B : Type 0} → Answer A → (A → Answer B) → Answer B
-(Ok x) >>= f = f x
-(Err fault) >>= f = Err fault
-
 -- what a function takes, which a value of another kind doesn't have ("Functions Expressions": an
 -- invalid type is a fault)
 abbrev pub due : {A : Type 0} → Option A → Answer A

@@ -8,9 +8,9 @@ use Rattle.json_doc.specs.declared.doc.Doc.{Doc}
 use Rattle.json_doc.specs.declared.doc.Doc.TheOpen.{Doc-F}
 use Rattle.json_doc.specs.declared.doc.Doc.TheViews.{out-Doc}
 use Rattle.json_doc.specs.declared.doc.Doc.TheFolds.{fold-Doc}
-use Rattle.json_doc.specs.declared.pairs.Pair.{Pair}
+use Rattle.texts.specs.declared.pairs.Pair.{Pair}
 use Rattle.json_doc.specs.DecimalValue.{value_cmp}
-use Rattle.json_doc.specs.Keys.{value_at}
+use Rattle.texts.specs.Keys.{value_at}
 
 -- whether a document is the one that the test is for
 abbrev pub Test : Type 0

@@ -5,10 +5,11 @@ use Rattle.json_doc.specs.declared.doc.Doc as doc
 use Rattle.json_doc.specs.declared.doc.Doc.{Doc}
 use Rattle.json_doc.specs.declared.doc.Doc.TheOpen.{Doc-F}
 use Rattle.json_doc.specs.declared.doc.Doc.TheViews.{out-Doc}
-use Rattle.json_doc.specs.declared.pairs.Pair.{Pair}
+use Rattle.texts.specs.declared.pairs.Pair.{Pair}
 use Rattle.json_doc.specs.Grammar.{put_all}
-use Rattle.json_doc.specs.Keys.{keys}
-use Rattle.jmes_eval.specs.Answers.{Answer, ◌>>=◌, due, all_of}
+use Rattle.texts.specs.Keys.{keys}
+use Rattle.jmes_eval.specs.Answers.{Answer, due, all_of}
+use Rattle.texts.specs.Calls.{◌>>=◌}
 use Rattle.jmes_eval.specs.Kinds.{number_of, text_of, items_of, fields_of, is_null}
 use Rattle.jmes_eval.specs.Numbers.{count_of}
 use Rattle.jmes_eval.specs.Orders.{is_before, is_behind, sorted, first_of, doc_or_null}

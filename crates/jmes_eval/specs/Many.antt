@@ -2,9 +2,10 @@
 use Rattle.std.specs.Prelude.{if◌then◌else◌, List, [], ◌∷◌, Option, None, Some, Ok}
 use Rattle.json_doc.specs.declared.doc.Doc as doc
 use Rattle.json_doc.specs.declared.doc.Doc.{Doc}
-use Rattle.json_doc.specs.declared.pairs.Pair.{Pair}
+use Rattle.texts.specs.declared.pairs.Pair.{Pair}
 use Rattle.json_doc.specs.Grammar.{put_all}
-use Rattle.jmes_eval.specs.Answers.{Answer, ◌>>=◌, due}
+use Rattle.jmes_eval.specs.Answers.{Answer, due}
+use Rattle.texts.specs.Calls.{◌>>=◌}
 use Rattle.jmes_eval.specs.Kinds.{fields_of, is_null}
 
 -- the first value that isn't null

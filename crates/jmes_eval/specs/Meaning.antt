@@ -7,10 +7,10 @@ use Rattle.std.specs.declared.cmp.Ordering.{Ordering}
 use Rattle.json_doc.specs.declared.decimal.Decimal.{Decimal}
 use Rattle.json_doc.specs.declared.doc.Doc as doc
 use Rattle.json_doc.specs.declared.doc.Doc.{Doc}
-use Rattle.json_doc.specs.declared.pairs.Pair.{Pair}
+use Rattle.texts.specs.declared.pairs.Pair.{Pair}
 use Rattle.json_doc.specs.DecimalValue.{value_cmp}
 use Rattle.json_doc.specs.Grammar.{put_all}
-use Rattle.json_doc.specs.Keys.{value_at}
+use Rattle.texts.specs.Keys.{value_at}
 use Rattle.jmes_syntax.specs.declared.expr.Argument.{Argument}
 use Rattle.jmes_syntax.specs.declared.expr.Argument.TheVariants as argument
 use Rattle.jmes_syntax.specs.declared.expr.Chain.{Chain}
@@ -26,7 +26,8 @@ use Rattle.jmes_syntax.specs.declared.expr.Step.TheVariants as step
 use Rattle.jmes_syntax.specs.declared.function.Function.{Function}
 use Rattle.jmes_syntax.specs.declared.function.Function.TheVariants as function
 use Rattle.jmes_syntax.specs.declared.whole.Whole.{Whole}
-use Rattle.jmes_eval.specs.Answers.{Answer, ◌>>=◌, due, all_of}
+use Rattle.jmes_eval.specs.Answers.{Answer, due, all_of}
+use Rattle.texts.specs.Calls.{◌>>=◌}
 use Rattle.jmes_eval.specs.Equality.{same}
 use Rattle.jmes_eval.specs.declared.signature.Form.{Form}
 use Rattle.jmes_eval.specs.declared.signature.Form.TheVariants.{One, Two, Many, ReferenceFirst, ReferenceLast}

@@ -13,7 +13,8 @@ use Rattle.json_doc.specs.Grammar.{is_blank}
 use Rattle.json_doc.specs.NumberToken.{Number, number_at, value_of}
 use Rattle.json_doc.specs.Reading.{Read}
 use Rattle.json_doc.specs.Scan.{begins_number}
-use Rattle.jmes_eval.specs.Answers.{Answer, ◌>>=◌, due, as_number, all_of}
+use Rattle.jmes_eval.specs.Answers.{Answer, due, as_number, all_of}
+use Rattle.texts.specs.Calls.{◌>>=◌}
 use Rattle.jmes_eval.specs.Kinds.{number_of, items_of}
 use Rattle.jmes_eval.specs.Fractions.{decimal_of}
 

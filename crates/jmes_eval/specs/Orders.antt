@@ -37,6 +37,11 @@ abbrev pub first_of : {A : Type 0} → List A → Option A
 first_of [] = None
 first_of (x ∷ xs) = Some x
 
+-- the one that comes first in the order of an element and the first of those behind it
+abbrev pub picked : {A : Type 0} → (A → A → Bool) → A → Option A → A
+picked before x None = x
+picked before x (Some y) = if before y x then y else x
+
 abbrev pub doc_or_null : Option Doc → Doc
 doc_or_null None = doc.Null
 doc_or_null (Some d) = d

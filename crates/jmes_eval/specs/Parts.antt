@@ -1,6 +1,6 @@
 -- Parts of expressions with a function at each expression in them: with their meanings, or weights.
 use Rattle.std.specs.Prelude.{List, map}
-use Rattle.json_doc.specs.declared.pairs.Pair.{Pair}
+use Rattle.texts.specs.declared.pairs.Pair.{Pair}
 use Rattle.jmes_syntax.specs.declared.expr.Argument.{Argument}
 use Rattle.jmes_syntax.specs.declared.expr.Argument.TheVariants as argument
 use Rattle.jmes_syntax.specs.declared.expr.Chain.{Chain}

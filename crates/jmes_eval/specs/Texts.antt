@@ -6,10 +6,11 @@ use Rattle.json_doc.specs.declared.doc.Doc.{Doc}
 use Rattle.json_doc.specs.declared.doc.Doc.TheOpen.{Doc-F}
 use Rattle.json_doc.specs.declared.doc.Doc.TheViews.{out-Doc}
 use Rattle.json_doc.specs.declared.doc.Doc.TheFolds.{fold-Doc}
-use Rattle.json_doc.specs.declared.pairs.Pair.{Pair}
+use Rattle.texts.specs.declared.pairs.Pair.{Pair}
 use Rattle.json_doc.specs.Compact.{compact_of}
-use Rattle.json_doc.specs.Joined.{joined}
-use Rattle.jmes_eval.specs.Answers.{Answer, ◌>>=◌, due, all_of}
+use Rattle.texts.specs.Joined.{joined}
+use Rattle.jmes_eval.specs.Answers.{Answer, due, all_of}
+use Rattle.texts.specs.Calls.{◌>>=◌}
 use Rattle.jmes_eval.specs.Kinds.{text_of, items_of}
 use Rattle.jmes_eval.specs.Equality.{contains_item}
 

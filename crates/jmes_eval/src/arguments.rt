@@ -8,7 +8,7 @@ ghost use Rattle.jmes_eval.specs.Seen.{seen_doc, seen_values};
 
 use crate::kinds::{is_null, type_name};
 use crate::seen::{Seen, made};
-use crate::{QueryFault, lists, merging, numbers, sorting, texts, tight};
+use crate::{QueryFault, lists, merging, numbers, sorting, text_functions, tight};
 use jmes_syntax::Function;
 use json_doc::{Doc, Text};
 use std::alloc::Global;
@@ -99,10 +99,10 @@ fn of_docs(alloc: Global, function: Function, left: &Doc, right: &Doc) -> Result
     ensures { Gives (of_two function left.now right.now) result }
 {
     match function {
-        Function::Contains => texts::contains(left, right),
-        Function::EndsWith => texts::ends_with(left, right),
-        Function::Join => texts::join(alloc, left, right),
-        Function::StartsWith => texts::starts_with(left, right),
+        Function::Contains => text_functions::contains(left, right),
+        Function::EndsWith => text_functions::ends_with(left, right),
+        Function::Join => text_functions::join(alloc, left, right),
+        Function::StartsWith => text_functions::starts_with(left, right),
         _ => Err(QueryFault::TypeFault),
     }
 }

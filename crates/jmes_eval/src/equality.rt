@@ -3,7 +3,7 @@ ghost use Rattle.std.specs.Prelude.{◌≡◌, ◌&&◌, ◌==◌, length, map};
 ghost use Rattle.std.specs.List.{list_all};
 ghost use Rattle.std.specs.Option.{option_copied};
 ghost use Rattle.json_doc.specs.declared.doc.Doc.TheViews.{out-Doc};
-ghost use Rattle.json_doc.specs.Keys.{value_at};
+ghost use Rattle.texts.specs.Keys.{value_at};
 ghost use Rattle.jmes_eval.specs.Equality.{same, each_same, has_doc_field};
 
 use json_doc::{Doc, Pair, Pairs, Text};

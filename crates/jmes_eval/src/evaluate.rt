@@ -14,14 +14,14 @@ ghost use Rattle.jmes_eval.specs.Weights.{arguments_weight, weight};
 use crate::QueryFault;
 use crate::arguments::{first, of_many, of_one, of_two, value};
 use crate::elements::{elements, joined_lists, values};
-use crate::keys::{first_element, fits, in_order};
+use crate::keys::{element_or_null, fits, in_order};
 use crate::kinds::{is_null, is_true, items};
 use crate::operators::{compared, negated};
 use crate::places::{field_at, index_at};
 use crate::seen::Seen;
 use crate::signature::{Form, form_of};
 use crate::slices::sliced;
-use crate::sorting::{Entry, ascend, descend};
+use crate::sorting::{Entry, ascend, greatest_entry, least_entry};
 use jmes_syntax::{Argument, Chain, Compared, Expr, Function, Operand, Step};
 use json_doc::{Doc, List, Pair, Pairs};
 use std::alloc::Global;
@@ -445,18 +445,18 @@ fn sort_by<'a>(alloc: Global, doc: &Doc, expr: &Expr) -> Result<Seen<'a>, QueryF
 fn min_by<'a>(alloc: Global, doc: &Doc, expr: &Expr) -> Result<Seen<'a>, QueryFault>
     ensures { GivesBy seen_doc (min_by_of doc.now (meaning expr.now)) result }
 {
-    let mut entries = keyed(alloc, expr, items(doc)?)?;
-    ascend(&mut entries)?;
-    Ok(Seen::Made(first_element(alloc, entries.as_slice())?))
+    let entries = keyed(alloc, expr, items(doc)?)?;
+    let least = least_entry(entries.as_slice());
+    Ok(Seen::Made(element_or_null(alloc, least)?))
 }
 
 #[cycle(query)]
 fn max_by<'a>(alloc: Global, doc: &Doc, expr: &Expr) -> Result<Seen<'a>, QueryFault>
     ensures { GivesBy seen_doc (max_by_of doc.now (meaning expr.now)) result }
 {
-    let mut entries = keyed(alloc, expr, items(doc)?)?;
-    descend(&mut entries)?;
-    Ok(Seen::Made(first_element(alloc, entries.as_slice())?))
+    let entries = keyed(alloc, expr, items(doc)?)?;
+    let greatest = greatest_entry(entries.as_slice());
+    Ok(Seen::Made(element_or_null(alloc, greatest)?))
 }
 
 /// The elements with their keys, each of which is of the kind of the first.

@@ -1,9 +1,9 @@
 //! Elements with their keys.
-ghost use Rattle.std.specs.Prelude.{◌≡◌, map, IfOk};
+ghost use Rattle.std.specs.Option.{option_copied};
+ghost use Rattle.std.specs.Prelude.{◌≡◌, map, option_map, IfOk};
 ghost use Rattle.json_doc.specs.declared.doc.Doc.TheVariants.{Items};
-ghost use Rattle.jmes_eval.specs.Entries.{entries_of, fits_first};
+ghost use Rattle.jmes_eval.specs.Entries.{entries_of, entry_of, fits_first};
 ghost use Rattle.jmes_eval.specs.Meaning.{element_in, fits};
-ghost use Rattle.jmes_eval.specs.Orders.{first_of};
 ghost use Rattle.jmes_eval.specs.Seen.{seen_doc};
 
 use crate::seen::Seen;
@@ -42,11 +42,11 @@ pub(crate) fn in_order(alloc: Global, entries: &[Entry<'_>]) -> Result<Doc, OutO
     Ok(Doc::Items(made))
 }
 
-/// A copy of the first element, or null.
-pub(crate) fn first_element(alloc: Global, entries: &[Entry<'_>]) -> Result<Doc, OutOfMemory>
-    ensures { IfOk result (λ made. made ≡ element_in (first_of (entries_of entries.now))) }
+/// A copy of an entry's element, or null.
+pub(crate) fn element_or_null(alloc: Global, entry: Option<&Entry<'_>>) -> Result<Doc, OutOfMemory>
+    ensures { IfOk result (λ made. made ≡ element_in (option_map entry_of (option_copied entry.entry))) }
 {
-    match entries.first() {
+    match entry {
         Some(entry) => copy(alloc, entry.element),
         None => Ok(Doc::Null),
     }

@@ -7,6 +7,7 @@ mod equality;
 mod evaluate;
 mod keys;
 mod kinds;
+mod laws;
 mod lists;
 mod merging;
 mod numbers;
@@ -19,12 +20,10 @@ mod setting;
 mod signature;
 mod slices;
 mod sorting;
-mod texts;
+mod text_functions;
 mod tight;
 
 pub use evaluate::search;
+pub use laws::set_is_found;
 pub use query_fault::QueryFault;
 pub use setting::set;
-
-#[cfg(test)]
-mod tests;

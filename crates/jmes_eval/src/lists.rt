@@ -2,7 +2,7 @@
 ghost use Rattle.std.specs.Prelude.{◌≡◌, length, reverse, map, IfOk};
 ghost use Rattle.std.specs.Str.{chars};
 ghost use Rattle.json_doc.specs.declared.doc.Doc.TheVariants.{Str, Items};
-ghost use Rattle.json_doc.specs.Keys.{keys};
+ghost use Rattle.texts.specs.Keys.{keys};
 ghost use Rattle.jmes_eval.specs.Answers.{Gives};
 ghost use Rattle.jmes_eval.specs.Lists.{keys_of, length_of, reverse_of, to_array_of, values_of};
 ghost use Rattle.jmes_eval.specs.Seen.{looked, seen_doc};

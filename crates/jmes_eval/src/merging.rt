@@ -2,7 +2,7 @@
 ghost use Rattle.std.specs.Prelude.{◌≡◌, [], IfOk, OnOk};
 ghost use Rattle.json_doc.specs.Gathered.{pairs_of};
 ghost use Rattle.json_doc.specs.Grammar.{put_all};
-ghost use Rattle.json_doc.specs.Keys.{put};
+ghost use Rattle.texts.specs.Keys.{put};
 ghost use Rattle.jmes_eval.specs.Answers.{Gives};
 ghost use Rattle.jmes_eval.specs.Many.{merged_after};
 ghost use Rattle.jmes_eval.specs.Seen.{seen_values};

@@ -1,7 +1,7 @@
 //! The text of a document without blanks.
 ghost use Rattle.std.specs.Prelude.{◌≡◌, ◌++◌, map, codes, IfOk, OnOk};
 ghost use Rattle.json_doc.specs.Compact.{compact_of};
-ghost use Rattle.json_doc.specs.Joined.{joined};
+ghost use Rattle.texts.specs.Joined.{joined};
 ghost use Rattle.json_doc.specs.declared.doc.Doc.TheVariants.{Str};
 ghost use Rattle.jmes_eval.specs.Texts.{to_string_of, tight_of, tight_pair};
 

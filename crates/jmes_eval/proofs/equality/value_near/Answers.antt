@@ -2,7 +2,7 @@ use Rattle.std.proofs.Common.{◌≡◌, Some, length, refl, sym, subst, ◌∙�
 use Rattle.std.specs.List.{slice_get}
 use Rattle.std.proofs.lemmas.Option.{slice_get_read}
 use Rattle.std.proofs.lemmas.Slice.Eq.{bytes_eq-Decides}
-use Rattle.json_doc.specs.Keys.{value_at}
+use Rattle.texts.specs.Keys.{value_at}
 use Rattle.jmes_eval.proofs.KeyPlaces.{value_at-place}
 use Rattle.jmes_eval.proofs.equality.value_near.Goals as goal
 

@@ -1,5 +1,6 @@
 use Rattle.std.proofs.Common.{map, subst, sym, ap, ◌∙◌}
-use Rattle.jmes_eval.specs.Answers.{◌>>=◌, GivesBy}
+use Rattle.jmes_eval.specs.Answers.{GivesBy}
+use Rattle.texts.specs.Calls.{◌>>=◌}
 use Rattle.jmes_eval.specs.Meaning.{meaning, chain_of, compare_of, run}
 use Rattle.jmes_eval.specs.Parts.{chain_with, compared_with, operand_with, steps_with}
 use Rattle.jmes_eval.specs.Seen.{seen_doc}

@@ -2,7 +2,7 @@ use Rattle.std.proofs.Common.{◌≡◌, ◌+◌, ◌++◌, true, [], drop, map}
 use Rattle.std.specs.Prelude.{Ok}
 use Rattle.json_doc.specs.declared.doc.Doc as doc
 use Rattle.json_doc.specs.Grammar.{put_all}
-use Rattle.jmes_eval.specs.Answers.{◌>>=◌}
+use Rattle.texts.specs.Calls.{◌>>=◌}
 use Rattle.jmes_eval.specs.Entries.{entries_of}
 use Rattle.jmes_eval.specs.Meaning.{meaning, piped, either, both, comparisons, behind, run, each, sieved, values_at, pairs_at, arguments_at, mapped, keyed}
 use Rattle.jmes_eval.specs.Parts.{argument_with, chain_with, compared_with, operand_with, pair_with, step_with, steps_with}

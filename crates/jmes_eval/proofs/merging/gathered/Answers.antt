@@ -1,5 +1,5 @@
 use Rattle.std.proofs.Common.{◌++◌, sym, ap, subst, ◌∙◌}
-use Rattle.json_doc.specs.Keys.{keys, IsDistinct}
+use Rattle.texts.specs.Keys.{keys, IsDistinct}
 use Rattle.json_doc.specs.Gathered.{pairs_of}
 use Rattle.json_doc.proofs.Gathering.{distinct-keys, IsNew-before}
 use Rattle.jmes_eval.proofs.merging.gathered.Goals as goal

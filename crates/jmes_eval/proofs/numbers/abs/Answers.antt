@@ -1,5 +1,6 @@
 use Rattle.std.proofs.Common.{ap, ◌∙◌}
-use Rattle.jmes_eval.specs.Answers.{◌>>=◌, as_number}
+use Rattle.jmes_eval.specs.Answers.{as_number}
+use Rattle.texts.specs.Calls.{◌>>=◌}
 use Rattle.jmes_eval.specs.Fractions.{decimal_of}
 use Rattle.jmes_eval.specs.Numbers.{size_of}
 use Rattle.jmes_eval.proofs.NumberAnswers.{as_number-is}
