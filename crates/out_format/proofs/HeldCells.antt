@@ -1,6 +1,6 @@
 -- Each scalar of an object stands in just one cell of its line.
 use Rattle.std.proofs.Common.{◌≡◌, ℕ, ◌+◌, ◌≤◌, zero, suc, Bool, true, false, ◌||◌, if◌then◌else◌, List, [], ◌∷◌, ◌++◌, map, length, Option, None, Some, refl, sym, ap, ◌∙◌, arith}
-use Rattle.std.specs.Prelude.{filter, encode_utf8_all, is_some, option_to_list}
+use Rattle.std.specs.Prelude.{filter, is_some, option_to_list}
 use Rattle.std.specs.List.{AllByRecursion, flat_map}
 use Rattle.std.specs.declared.cmp.Ordering.{Ordering}
 use Rattle.std.specs.declared.cmp.Ordering.TheVariants.{Less, Equal, Greater}
@@ -8,20 +8,21 @@ use Rattle.std.specs.Ordering.{ordering_reverse, is_eq}
 use Rattle.std.specs.Cmp.Lexicographic.{nat_list_cmp_total}
 use Rattle.std.proofs.lemmas.Map.Text.{is_eq-slice_cmp}
 use Rattle.std.proofs.lemmas.Slice.Eq.{bytes_eq-Decides}
-use Rattle.json_doc.specs.declared.pairs.Pair.{Pair}
-use Rattle.json_doc.specs.Keys.{keys}
+use Rattle.texts.specs.declared.pairs.Pair.{Pair}
+use Rattle.texts.specs.Keys.{keys}
 use Rattle.out_format.specs.Ascending.{IsAscending, has_key}
 use Rattle.out_format.specs.Cells.{value_of, values}
 use Rattle.out_format.specs.Layers.{Layer, fields_in}
-use Rattle.out_format.specs.Members.{text_cmp, sorted, scalar_members, columns, member_at, cell_of, cell_at, object_cells, texts}
+use Rattle.texts.specs.Order.{text_cmp}
+use Rattle.out_format.specs.Members.{sorted, scalar_members, columns, member_at, cell_of, cell_at, object_cells, texts}
 use Rattle.out_format.proofs.Placing.{all-sorted}
-use Rattle.out_format.proofs.SortedMembers.{less_from_greater, same_bytes, all_later, all_same, ascending-sorted, key-sorted}
+use Rattle.out_format.proofs.SortedMembers.{less_from_greater, same_key, all_later, all_same, ascending-sorted, key-sorted}
 
 abbrev Member : Type 0
 Member = Pair (Option (List ℕ))
 
 greater_from_less : (j k : List ℕ) → text_cmp j k ≡ Less → text_cmp k j ≡ Greater
-greater_from_less j k e = nat_list_cmp_total.antisymm (encode_utf8_all k) (encode_utf8_all j) ∙ ap ordering_reverse e
+greater_from_less j k e = nat_list_cmp_total.antisymm k j ∙ ap ordering_reverse e
 
 -- a column that comes before all members finds none
 found_none : (c : List ℕ) (ps : List Member) → AllByRecursion (λ k. text_cmp c k ≡ Less) (keys ps) → member_at c ps ≡ None
@@ -67,7 +68,7 @@ held_choice n held Less c cs p ps bound o up up' covers =
     ap (λ m. value_of (cell_of m) ++ values (map (cell_at (p ∷ ps)) cs)) (found_none c (p ∷ ps) above)
     ∙ held cs (p ∷ ps) (omega arith) up.1 up' (covers_rest c cs (p ∷ ps) above covers)
 held_choice n held Equal c cs p ps bound o up up' covers =
-    let same = same_bytes c p.key o in
+    let same = same_key c p.key o in
     let behind = all_same p.key c cs (sym same) up.0 in
     let above = all_same c p.key (keys ps) same up'.0 in
     ap (λ r. value_of (cell_of (if is_eq r then Some p.value else member_at c ps)) ++ values (map (cell_at (p ∷ ps)) cs)) o
@@ -98,7 +99,7 @@ held (suc n) (c ∷ cs) (p ∷ ps) bound up up' covers = held_choice n (held n) 
 -- The columns of a list cover each object in it.
 
 key_self : (k : List ℕ) → is_eq (text_cmp k k) ≡ true
-key_self k = is_eq-slice_cmp (encode_utf8_all k) (encode_utf8_all k) ∙ (bytes_eq-Decides (encode_utf8_all k) (encode_utf8_all k)).1 refl
+key_self k = is_eq-slice_cmp k k ∙ (bytes_eq-Decides k k).1 refl
 
 or_right : (a b : Bool) → b ≡ true → (a || b) ≡ true
 or_right true b e = refl

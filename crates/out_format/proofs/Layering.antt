@@ -6,7 +6,7 @@ use Rattle.json_doc.specs.declared.doc.Doc.{Doc, out-Doc, map-Doc, size-Doc, the
 use Rattle.json_doc.specs.declared.doc.Doc.TheVariants.{Null, Flag, Number, Str, Items, Fields}
 use Rattle.json_doc.specs.declared.doc.Doc.TheOpen.{Doc-F}
 use Rattle.json_doc.specs.declared.decimal.Decimal.{Decimal}
-use Rattle.json_doc.specs.declared.pairs.Pair.{Pair}
+use Rattle.texts.specs.declared.pairs.Pair.{Pair}
 use Rattle.out_format.specs.Layers.{scalar_text, is_scalar, is_object, items_in, fields_in}
 
 pub out-Null : out-Doc Null ≡ Doc-F.Null

@@ -3,6 +3,7 @@ pub mod FilledCells
 pub mod HeldCells
 pub mod Layering
 pub mod Literals
+pub mod PartLayers
 pub mod Placing
 pub mod Rearranged
 pub mod ScalarsOnce

@@ -14,18 +14,20 @@ use Rattle.std.specs.Cmp.Lexicographic.{slice_cmp}
 use Rattle.std.specs.FinMap.{slice_cmp-IsAntisymmetric, nat_cmp-IsAntisymmetric}
 use Rattle.std.proofs.lemmas.List.{at_drop_more}
 use Rattle.json_doc.specs.declared.doc.Doc.{Doc, out-Doc, size-Doc}
-use Rattle.json_doc.specs.declared.pairs.Pair.{Pair}
-use Rattle.json_doc.specs.Keys.{keys}
+use Rattle.texts.specs.declared.pairs.Pair.{Pair}
+use Rattle.texts.specs.Keys.{keys}
 use Rattle.out_format.specs.Borrowed.{Entry, IsKeyed, AreKeyed, members_of, with_text}
 use Rattle.out_format.specs.Layers.{layer_of, scalar_of, is_scalar, fields_in}
 use Rattle.out_format.proofs.Layering.{on_value, fields_in-map, fields-below}
-use Rattle.out_format.specs.Members.{text_cmp, placed, all_placed, sorted, scalar_members, columns, member_at, cell_at, object_cells}
+use Rattle.texts.specs.Order.{text_cmp}
+use Rattle.texts.proofs.ByteOrder.{text_cmp-bytes}
+use Rattle.out_format.specs.Members.{placed, all_placed, sorted, scalar_members, columns, member_at, cell_at, object_cells}
 
 abbrev bytes_cmp : Bor (List ℕ) → Bor (List ℕ) → Ordering
 bytes_cmp a b = slice_cmp nat_cmp a.now b.now
 
 same_order : (e f : Entry) → IsKeyed e → IsKeyed f → bytes_cmp e.0 f.0 ≡ text_cmp e.1.now.key f.1.now.key
-same_order e f a b = rw (a, b) refl
+same_order e f a b = rw (a, b) (text_cmp-bytes e.1.now.key f.1.now.key)
 
 members_choice : (o : Ordering) (a b c : List Entry) → members_of (match_ordering o a b c) ≡ match_ordering o (members_of a) (members_of b) (members_of c)
 members_choice Less a b c = refl
@@ -103,7 +105,7 @@ pub found : (es : List Entry) (k : Bor (List ℕ)) (key : List ℕ) → k.now �
 found [] k key is all = refl
 found (e ∷ es) k key is all =
     found_choice (is_eq (bytes_cmp k e.0)) (lookup (is_at (bytes_cmp k)) es) e.1 (member_at key (members_of es)) (found es k key is all.1)
-    ∙ ap (λ o. if is_eq o then Some e.1.now.value else member_at key (members_of es)) (ap (λ b. slice_cmp nat_cmp b e.0.now) is ∙ ap (slice_cmp nat_cmp (encode_utf8_all key)) all.0)
+    ∙ ap (λ o. if is_eq o then Some e.1.now.value else member_at key (members_of es)) (ap (λ b. slice_cmp nat_cmp b e.0.now) is ∙ ap (slice_cmp nat_cmp (encode_utf8_all key)) all.0 ∙ text_cmp-bytes key e.1.now.key)
 
 -- scalar members of documents
 

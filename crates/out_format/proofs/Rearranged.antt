@@ -1,14 +1,15 @@
 -- Texts of parts that are joined in one order or another.
 use Rattle.std.proofs.Common.{◌≡◌, ℕ, List, [], ◌∷◌, ◌++◌, map, refl, sym, subst, append_assoc, append-nil}
-use Rattle.std.specs.Prelude.{encode_utf8_all, IsPermutation}
+use Rattle.std.specs.Prelude.{IsPermutation}
 use Rattle.std.specs.List.{AllByRecursion, flat_map}
 use Rattle.std.specs.declared.cmp.Ordering.{Ordering}
 use Rattle.std.specs.declared.cmp.Ordering.TheVariants.{Less, Equal, Greater}
 use Rattle.std.specs.Ordering.{match_ordering}
 use Rattle.std.proofs.lemmas.List.Sorted.{IsPermutation-refl, IsPermutation-trans, IsPermutation-append, IsPermutation-append_left, IsPermutation-append_right, IsPermutation-append_comm}
-use Rattle.json_doc.specs.declared.pairs.Pair.{Pair}
-use Rattle.json_doc.specs.Keys.{keys, IsDistinct}
-use Rattle.out_format.specs.Members.{text_cmp, placed, all_placed, sorted}
+use Rattle.texts.specs.declared.pairs.Pair.{Pair}
+use Rattle.texts.specs.Keys.{keys, IsDistinct}
+use Rattle.texts.specs.Order.{text_cmp}
+use Rattle.out_format.specs.Members.{placed, all_placed, sorted}
 use Rattle.out_format.proofs.SortedMembers.{IsApart, AreApart, later_apart, none_apart}
 
 abbrev pub Texts : Type 0
@@ -57,7 +58,7 @@ placed_texts : {X : Type 0} (f : Pair X → Texts) (qs : List (Pair X)) (p : Pai
 placed_texts f [] p apart = IsPermutation-refl (f p ++ [])
 placed_texts f (q ∷ qs) p apart = placed_choice f (text_cmp p.key q.key) p q qs refl apart.0 (placed_texts f qs p apart.1)
 
-all_placed_texts : {X : Type 0} (f : Pair X → Texts) (done ps : List (Pair X)) → AreApart done ps → IsDistinct (map encode_utf8_all (keys ps))
+all_placed_texts : {X : Type 0} (f : Pair X → Texts) (done ps : List (Pair X)) → AreApart done ps → IsDistinct (keys ps)
     → IsPermutation (flat_map f done ++ flat_map f ps) (flat_map f (all_placed done ps))
 all_placed_texts f done [] apart distinct = same_order (flat_map f done ++ []) (flat_map f done) (append-nil (flat_map f done))
 all_placed_texts f done (p ∷ ps) apart distinct =
@@ -70,5 +71,5 @@ all_placed_texts f done (p ∷ ps) apart distinct =
     (IsPermutation-trans (f p ++ (before ++ rest)) (flat_map f (placed done p) ++ rest) (flat_map f (all_placed (placed done p) ps))
     (moved_along ((f p ++ before) ++ rest) (f p ++ (before ++ rest)) (flat_map f (placed done p) ++ rest) (flat_map f (placed done p) ++ rest) (sym (append_assoc (f p) before rest)) refl put) more)
 
-pub sorted_texts : {X : Type 0} (f : Pair X → Texts) (ps : List (Pair X)) → IsDistinct (map encode_utf8_all (keys ps)) → IsPermutation (flat_map f ps) (flat_map f (sorted ps))
+pub sorted_texts : {X : Type 0} (f : Pair X → Texts) (ps : List (Pair X)) → IsDistinct (keys ps) → IsPermutation (flat_map f ps) (flat_map f (sorted ps))
 sorted_texts f ps distinct = all_placed_texts f [] ps (none_apart ps) distinct

@@ -11,9 +11,10 @@ use Rattle.json_doc.specs.declared.doc.Doc.{Doc, out-Doc, map-Doc, roll-Doc}
 use Rattle.json_doc.specs.declared.doc.Doc.TheOpen.{Doc-F}
 use Rattle.json_doc.specs.declared.doc.Doc.TheFolds.{fold_out-Doc, ind-Doc}
 use Rattle.json_doc.specs.declared.doc.Doc.TheVariants.{Null, Flag, Number, Str, Items, Fields, rolls-Null, rolls-Flag, rolls-Number, rolls-Str, rolls-Items, rolls-Fields}
-use Rattle.json_doc.specs.declared.pairs.Pair.{Pair}
-use Rattle.json_doc.specs.Documents.{IsText, IsProper}
-use Rattle.json_doc.specs.Keys.{keys, IsNew, IsDistinct}
+use Rattle.texts.specs.declared.pairs.Pair.{Pair}
+use Rattle.json_doc.specs.Documents.{IsProper}
+use Rattle.texts.specs.Characters.{IsText}
+use Rattle.texts.specs.Keys.{keys, IsNew, IsDistinct}
 use Rattle.json_doc.proofs.ProperDocuments.{items-IsProper, fields-IsProper, keys-IsProper}
 use Rattle.out_format.specs.declared.cell.Cell.{Cell}
 use Rattle.out_format.specs.declared.cell.Cell.TheVariants.{Value}
@@ -90,12 +91,12 @@ scalars-fields ps = scalars-out (Fields ps) ∙ ap (λ x. scalars_step (map-Doc 
 -- One document.
 
 abbrev pub Holds : Doc → Type 0
-Holds d = (id : Option (List ℕ)) → IsPermutation (scalars_of d) (line_values ((part_of d).lines id))
+Holds d = (id : Option (List ℕ)) → IsPermutation (scalars_of d) (line_values ((part_of d).whole id))
 
 scalar_holds : (d : Doc) → is_scalar (out-Doc d) ≡ true → Holds d
 scalar_holds d is id =
     let ts = texts_of (layer_of d ∷ []) in
-    same_order (scalars_of d) (line_values ((part_of d).lines id))
+    same_order (scalars_of d) (line_values ((part_of d).whole id))
     (scalars-scalar d is ∙ ap option_to_list (sym (text_kept scalar_of (out-Doc d))) ∙ sym (append-nil (option_to_list (scalar_text (layer_of d))))
     ∙ sym (values-scalars None ts) ∙ ap line_values (sym (lines-scalar d id is)))
 
@@ -104,16 +105,16 @@ abbrev first_of : Doc → Texts
 first_of d = option_to_list (scalar_of d)
 
 abbrev later_of : Option (List ℕ) → Doc → Texts
-later_of id d = line_values (if is_scalar (out-Doc d) then [] else (part_of d).lines id)
+later_of id d = line_values (if is_scalar (out-Doc d) then [] else (part_of d).whole id)
 
 no_text : (o : Option (List ℕ)) → is_some o ≡ false → option_to_list o ≡ []
 no_text None e = refl
 no_text (Some text) e = cc
 
-parted_choice : (b : Bool) (d : Doc) (id : Option (List ℕ)) → is_scalar (out-Doc d) ≡ b → Holds d → IsPermutation (scalars_of d) (first_of d ++ line_values (if b then [] else (part_of d).lines id))
+parted_choice : (b : Bool) (d : Doc) (id : Option (List ℕ)) → is_scalar (out-Doc d) ≡ b → Holds d → IsPermutation (scalars_of d) (first_of d ++ line_values (if b then [] else (part_of d).whole id))
 parted_choice true d id is holds = same_order (scalars_of d) (first_of d ++ []) (scalars-scalar d is ∙ sym (append-nil (first_of d)))
 parted_choice false d id is holds =
-    let lines = line_values ((part_of d).lines id) in
+    let lines = line_values ((part_of d).whole id) in
     moved_along (scalars_of d) (scalars_of d) lines (first_of d ++ lines) refl (ap (λ ts. ts ++ lines) (sym (no_text (scalar_of d) is))) (holds id)
 
 parted : (d : Doc) (id : Option (List ℕ)) → Holds d → IsPermutation (scalars_of d) (first_of d ++ later_of id d)
@@ -126,7 +127,7 @@ firsts [] = refl
 firsts (d ∷ ds) = ap (λ t. option_to_list t ++ texts_of (map layer_of ds)) (text_kept scalar_of (out-Doc d)) ∙ ap (λ ts. first_of d ++ ts) (firsts ds)
 
 nested_same : (id : Option (List ℕ)) (d : Doc) → line_values (nested_lines id (part_of d)) ≡ later_of id d
-nested_same id d = ap (λ t. line_values (if is_some t then [] else (part_of d).lines id)) (text-same d)
+nested_same id d = ap (λ t. line_values (if is_some t then [] else (part_of d).whole id)) (text-same d)
 
 laters : (id : Option (List ℕ)) (ds : List Doc) → line_values (flat_map (nested_lines id) (map part_of ds)) ≡ flat_map (later_of id) ds
 laters id [] = refl
@@ -155,27 +156,27 @@ object-values before after d id =
     ∙ ap (λ ts. ts ++ line_values (part_of d).inner) (values-line id cells ∙ scalars-held before after (layer_of d))
 
 entry_choice : (b : Bool) (before after : List Layer) (d : Doc) (id : Option (List ℕ)) → is_object (out-Doc d) ≡ b
-    → line_values (entry_lines id (columns (before ++ (layer_of d ∷ after))) (part_of d)) ≡ line_values ((part_of d).lines id)
+    → line_values (entry_lines id (columns (before ++ (layer_of d ∷ after))) (part_of d)) ≡ line_values ((part_of d).whole id)
 entry_choice true before after d id is =
     ap line_values (entry-object d id (columns (before ++ (layer_of d ∷ after))) is) ∙ object-values before after d id
     ∙ sym (object-values [] [] d id) ∙ ap line_values (sym (lines-object d id is))
 entry_choice false before after d id is = ap line_values (entry-other d id (columns (before ++ (layer_of d ∷ after))) is)
 
 entries_same : (before : List Layer) (ds : List Doc) (id : Option (List ℕ))
-    → flat_map (λ d. line_values (entry_lines id (columns (before ++ map layer_of ds)) (part_of d))) ds ≡ flat_map (λ d. line_values ((part_of d).lines id)) ds
+    → flat_map (λ d. line_values (entry_lines id (columns (before ++ map layer_of ds)) (part_of d))) ds ≡ flat_map (λ d. line_values ((part_of d).whole id)) ds
 entries_same before [] id = refl
 entries_same before (d ∷ ds) id =
     let here = columns (before ++ (layer_of d ∷ map layer_of ds)) in
     let along : columns ((before ++ layer_of d ∷ []) ++ map layer_of ds) ≡ here = ap columns (append_assoc before (layer_of d ∷ []) (map layer_of ds)) in
     ap (λ ts. ts ++ flat_map (λ e. line_values (entry_lines id here (part_of e))) ds) (entry_choice (is_object (out-Doc d)) before (map layer_of ds) d id refl)
-    ∙ ap (λ ts. line_values ((part_of d).lines id) ++ ts)
+    ∙ ap (λ ts. line_values ((part_of d).whole id) ++ ts)
     (ap (λ ks. flat_map (λ e. line_values (entry_lines id ks (part_of e))) ds) (sym along) ∙ entries_same (before ++ layer_of d ∷ []) ds id)
 
 mapped : {X Y : Type 0} (f : Y → Texts) (g : X → Y) (xs : List X) → flat_map f (map g xs) ≡ flat_map (λ x. f (g x)) xs
 mapped f g [] = refl
 mapped f g (x ∷ xs) = ap (λ ts. f (g x) ++ ts) (mapped f g xs)
 
-all_at : (id : Option (List ℕ)) (ds : List Doc) → AllByRecursion Holds ds → AllByRecursion (λ d. IsPermutation (scalars_of d) (line_values ((part_of d).lines id))) ds
+all_at : (id : Option (List ℕ)) (ds : List Doc) → AllByRecursion Holds ds → AllByRecursion (λ d. IsPermutation (scalars_of d) (line_values ((part_of d).whole id))) ds
 all_at id [] all = tt
 all_at id (d ∷ ds) all = (all.0 id, all_at id ds all.1)
 
@@ -184,7 +185,7 @@ objects_hold ds id is all =
     let cols = columns (map layer_of ds) in
     let lines = ap line_values (list-object ds id is) ∙ flat-lines (entry_lines id cols) (map part_of ds)
     ∙ mapped (λ part. line_values (entry_lines id cols part)) part_of ds ∙ entries_same [] ds id in
-    subst (IsPermutation (flat_map scalars_of ds)) (sym lines) (each scalars_of (λ d. line_values ((part_of d).lines id)) ds (all_at id ds all))
+    subst (IsPermutation (flat_map scalars_of ds)) (sym lines) (each scalars_of (λ d. line_values ((part_of d).whole id)) ds (all_at id ds all))
 
 list_choice : (b : Bool) (ds : List Doc) (id : Option (List ℕ)) → list_any (λ d. is_object (out-Doc d)) ds ≡ b → AllByRecursion Holds ds → IsPermutation (flat_map scalars_of ds) (line_values (list_lines id (map part_of ds)))
 list_choice true ds id is all = objects_hold ds id is all
@@ -194,7 +195,7 @@ items_hold : (ds : List Doc) → AllByRecursion Holds ds → Holds (Items ds)
 items_hold ds all id =
     let out = out-Items ds in
     let lines = lines-list (Items ds) id (ap is_scalar out) (ap is_object out) ∙ ap (λ x. list_lines id (map part_of (items_in x))) out in
-    moved_along (flat_map scalars_of ds) (scalars_of (Items ds)) (line_values (list_lines id (map part_of ds))) (line_values ((part_of (Items ds)).lines id))
+    moved_along (flat_map scalars_of ds) (scalars_of (Items ds)) (line_values (list_lines id (map part_of ds))) (line_values ((part_of (Items ds)).whole id))
     (scalars-items ds) (ap line_values (sym lines)) (list_choice (list_any (λ d. is_object (out-Doc d)) ds) ds id refl all)
 
 -- Objects.
@@ -207,7 +208,7 @@ members_parted : (ps : List (Pair Doc)) → AllByRecursion (λ p. Holds p.value)
 members_parted [] all = tt
 members_parted (p ∷ ps) all = (parted p.value (Some p.key) all.0, members_parted ps all.1)
 
-fields_hold : (ps : List (Pair Doc)) → IsDistinct (map encode_utf8_all (keys ps)) → AllByRecursion (λ p. Holds p.value) ps → Holds (Fields ps)
+fields_hold : (ps : List (Pair Doc)) → IsDistinct (keys ps) → AllByRecursion (λ p. Holds p.value) ps → Holds (Fields ps)
 fields_hold ps distinct all id =
     let d : Doc = Fields ps in
     let out = out-Fields ps in
@@ -224,25 +225,8 @@ fields_hold ps distinct all id =
     (IsPermutation-trans (flat_map (λ p. scalars_of p.value) members) (flat_map (λ p. first_of p.value ++ line_values (nested_of p)) members) (flat_map (λ p. first_of p.value) members ++ flat_map (λ p. line_values (nested_of p)) members)
     (each (λ p. scalars_of p.value) (λ p. first_of p.value ++ line_values (nested_of p)) members (members_parted members (all-sorted (λ p. Holds p.value) ps all)))
     (split (λ p. first_of p.value) (λ p. line_values (nested_of p)) members)) in
-    moved_along (flat_map (λ p. scalars_of p.value) ps) (scalars_of d) (flat_map (λ p. first_of p.value) members ++ flat_map (λ p. line_values (nested_of p)) members) (line_values ((part_of d).lines id))
+    moved_along (flat_map (λ p. scalars_of p.value) ps) (scalars_of d) (flat_map (λ p. first_of p.value) members ++ flat_map (λ p. line_values (nested_of p)) members) (line_values ((part_of d).whole id))
     (scalars-fields ps) (sym lines) moved
-
--- Keys of texts with other bytes.
-
-text_scalars : (cs : List ℕ) → IsText cs → scalars cs ≡ true
-text_scalars [] text = refl
-text_scalars (c ∷ cs) text = both_true text.0 (text_scalars cs text.1)
-
-same_text : (j k : List ℕ) → IsText j → IsText k → encode_utf8_all j ≡ encode_utf8_all k → j ≡ k
-same_text j k t u e = sym (chars-encodes j (text_scalars j t)) ∙ ap chars e ∙ chars-encodes k (text_scalars k u)
-
-new_bytes : (k : List ℕ) (ks : List (List ℕ)) → IsText k → AllByRecursion IsText ks → IsNew k ks → IsNew (encode_utf8_all k) (map encode_utf8_all ks)
-new_bytes k [] text all new = tt
-new_bytes k (j ∷ ks) text all new = ((λ e. new.0 (same_text k j text all.0 e)), new_bytes k ks text all.1 new.1)
-
-distinct_bytes : (ks : List (List ℕ)) → AllByRecursion IsText ks → IsDistinct ks → IsDistinct (map encode_utf8_all ks)
-distinct_bytes [] all distinct = tt
-distinct_bytes (k ∷ ks) all distinct = (new_bytes k ks all.0 all.1 distinct.0, distinct_bytes ks all.1 distinct.1)
 
 -- Every document.
 
@@ -277,7 +261,7 @@ layer_holds (Doc-F.Fields es) =
     let ps : List (Pair Doc) = map plain es in
     subst Claim (sym (rolls-Fields ps)) (λ proper.
     let keyed = keys-IsProper ps proper in
-    fields_hold ps (distinct_bytes (keys ps) keyed.0 keyed.1) (all_fields es (fields-IsProper ps proper)))
+    fields_hold ps keyed.1 (all_fields es (fields-IsProper ps proper)))
 
 pub scalars-once : (d : Doc) → IsProper d → Holds d
 scalars-once = ind-Doc Claim (λ x y is. subst (λ z. Claim (roll-Doc z)) is (layer_holds y))

@@ -1,26 +1,27 @@
 -- Members that are put into their places stand in ascending order, and none is lost.
 use Rattle.std.proofs.Common.{◌≡◌, ℕ, Bool, true, false, ◌||◌, List, [], ◌∷◌, ◌++◌, map, refl, sym, ap, ◌∙◌, subst, append-nil}
-use Rattle.std.specs.Prelude.{encode_utf8_all, IsPermutation}
+use Rattle.std.specs.Prelude.{IsPermutation}
 use Rattle.std.specs.List.{AllByRecursion}
 use Rattle.std.specs.declared.cmp.Ordering.{Ordering}
 use Rattle.std.specs.declared.cmp.Ordering.TheVariants.{Less, Equal, Greater}
-use Rattle.std.specs.Ordering.{nat_cmp, match_ordering, ordering_reverse, is_eq}
-use Rattle.std.specs.Cmp.Lexicographic.{slice_cmp, nat_list_cmp_total}
+use Rattle.std.specs.Ordering.{match_ordering, ordering_reverse, is_eq}
+use Rattle.std.specs.Cmp.Lexicographic.{nat_list_cmp_total}
 use Rattle.std.specs.FinMap.{slice_cmp-IsAntisymmetric, nat_cmp-IsAntisymmetric}
 use Rattle.std.proofs.lemmas.List.Sorted.{IsPermutation-refl, IsPermutation-sym, IsPermutation-cons, IsPermutation-trans, IsPermutation-append_left, IsPermutation-middle}
-use Rattle.json_doc.specs.declared.pairs.Pair.{Pair}
-use Rattle.json_doc.specs.Keys.{keys, IsNew, IsDistinct}
-use Rattle.out_format.specs.Members.{text_cmp, placed, all_placed, sorted}
+use Rattle.texts.specs.declared.pairs.Pair.{Pair}
+use Rattle.texts.specs.Keys.{keys, IsNew, IsDistinct}
+use Rattle.texts.specs.Order.{text_cmp}
+use Rattle.out_format.specs.Members.{placed, all_placed, sorted}
 use Rattle.out_format.specs.Ascending.{IsAscending, has_key}
 
-pub same_bytes : (j k : List ℕ) → text_cmp j k ≡ Equal → encode_utf8_all j ≡ encode_utf8_all k
-same_bytes j k e = slice_cmp-IsAntisymmetric nat_cmp-IsAntisymmetric (encode_utf8_all j) (encode_utf8_all k) e
+pub same_key : (j k : List ℕ) → text_cmp j k ≡ Equal → j ≡ k
+same_key j k e = slice_cmp-IsAntisymmetric nat_cmp-IsAntisymmetric j k e
 
 pub less_trans : (i j k : List ℕ) → text_cmp i j ≡ Less → text_cmp j k ≡ Less → text_cmp i k ≡ Less
-less_trans i j k e e' = nat_list_cmp_total.trans (encode_utf8_all i) (encode_utf8_all j) (encode_utf8_all k) e e'
+less_trans i j k e e' = nat_list_cmp_total.trans i j k e e'
 
 pub less_from_greater : (j k : List ℕ) → text_cmp j k ≡ Greater → text_cmp k j ≡ Less
-less_from_greater j k e = nat_list_cmp_total.antisymm (encode_utf8_all k) (encode_utf8_all j) ∙ ap ordering_reverse e
+less_from_greater j k e = nat_list_cmp_total.antisymm k j ∙ ap ordering_reverse e
 
 -- Ascending order.
 
@@ -38,15 +39,15 @@ pub all_later : (j k : List ℕ) (ks : List (List ℕ)) → text_cmp j k ≡ Les
 all_later j k [] less all = tt
 all_later j k (i ∷ ks) less all = (less_trans j k i less all.0, all_later j k ks less all.1)
 
-pub all_same : (j k : List ℕ) (ks : List (List ℕ)) → encode_utf8_all j ≡ encode_utf8_all k → AllByRecursion (λ i. text_cmp k i ≡ Less) ks → AllByRecursion (λ i. text_cmp j i ≡ Less) ks
+pub all_same : (j k : List ℕ) (ks : List (List ℕ)) → j ≡ k → AllByRecursion (λ i. text_cmp k i ≡ Less) ks → AllByRecursion (λ i. text_cmp j i ≡ Less) ks
 all_same j k [] same all = tt
-all_same j k (i ∷ ks) same all = (ap (λ b. slice_cmp nat_cmp b (encode_utf8_all i)) same ∙ all.0, all_same j k ks same all.1)
+all_same j k (i ∷ ks) same all = (ap (λ b. text_cmp b i) same ∙ all.0, all_same j k ks same all.1)
 
 ascending_choice : {X : Type 0} (o : Ordering) (p q : Pair X) (qs : List (Pair X)) → text_cmp p.key q.key ≡ o
     → AllByRecursion (λ i. text_cmp q.key i ≡ Less) (keys qs) → IsAscending (keys qs) → IsAscending (keys (placed qs p))
     → IsAscending (keys (match_ordering o (p ∷ q ∷ qs) (p ∷ qs) (q ∷ placed qs p)))
 ascending_choice Less p q qs o above all more = ((o, all_later p.key q.key (keys qs) o above), (above, all))
-ascending_choice Equal p q qs o above all more = (all_same p.key q.key (keys qs) (same_bytes p.key q.key o) above, all)
+ascending_choice Equal p q qs o above all more = (all_same p.key q.key (keys qs) (same_key p.key q.key o) above, all)
 ascending_choice Greater p q qs o above all more = (above-placed (λ i. text_cmp q.key i ≡ Less) qs p above (less_from_greater p.key q.key o), more)
 
 ascending-placed : {X : Type 0} (qs : List (Pair X)) (p : Pair X) → IsAscending (keys qs) → IsAscending (keys (placed qs p))
@@ -71,14 +72,14 @@ or_same : (a b c : Bool) → a ≡ b → (a || c) ≡ (a || (b || c))
 or_same true b c e = refl
 or_same false b c e = rw (← e) refl
 
-same_test : (k i j : List ℕ) → encode_utf8_all i ≡ encode_utf8_all j → is_eq (text_cmp k i) ≡ is_eq (text_cmp k j)
-same_test k i j same = ap (λ b. is_eq (slice_cmp nat_cmp (encode_utf8_all k) b)) same
+same_test : (k i j : List ℕ) → i ≡ j → is_eq (text_cmp k i) ≡ is_eq (text_cmp k j)
+same_test k i j same = ap (λ b. is_eq (text_cmp k b)) same
 
 key_choice : {X : Type 0} (k : List ℕ) (o : Ordering) (p q : Pair X) (qs : List (Pair X)) → text_cmp p.key q.key ≡ o
     → has_key k (keys (placed qs p)) ≡ (is_eq (text_cmp k p.key) || has_key k (keys qs))
     → has_key k (keys (match_ordering o (p ∷ q ∷ qs) (p ∷ qs) (q ∷ placed qs p))) ≡ (is_eq (text_cmp k p.key) || (is_eq (text_cmp k q.key) || has_key k (keys qs)))
 key_choice k Less p q qs o more = refl
-key_choice k Equal p q qs o more = or_same (is_eq (text_cmp k p.key)) (is_eq (text_cmp k q.key)) (has_key k (keys qs)) (same_test k p.key q.key (same_bytes p.key q.key o))
+key_choice k Equal p q qs o more = or_same (is_eq (text_cmp k p.key)) (is_eq (text_cmp k q.key)) (has_key k (keys qs)) (same_test k p.key q.key (same_key p.key q.key o))
 key_choice k Greater p q qs o more =
     ap (λ b. is_eq (text_cmp k q.key) || b) more ∙ or_swap (is_eq (text_cmp k q.key)) (is_eq (text_cmp k p.key)) (has_key k (keys qs))
 
@@ -104,7 +105,7 @@ key-all_placed k done (p ∷ ps) =
 pub key-sorted : {X : Type 0} (k : List ℕ) (ps : List (Pair X)) → has_key k (keys (sorted ps)) ≡ has_key k (keys ps)
 key-sorted k ps = key-all_placed k [] ps
 
--- A permutation, where no two keys have the same bytes.
+-- A permutation, where the keys are distinct.
 
 abbrev pub IsApart : {X : Type 0} → Pair X → List (Pair X) → Type 0
 IsApart p qs = AllByRecursion (λ q. text_cmp p.key q.key ≡ Equal → ⊥) qs
@@ -134,12 +135,12 @@ apart-placed r [] p all is = (is, tt)
 apart-placed r (q ∷ qs) p all is =
     apart_choice r (text_cmp p.key q.key) (p ∷ q ∷ qs) (p ∷ qs) (q ∷ placed qs p) (is, all) (is, all.1) (all.0, apart-placed r qs p all.1 is)
 
-pub later_apart : {X : Type 0} (done : List (Pair X)) (p : Pair X) (ps : List (Pair X)) → AreApart done ps → IsNew (encode_utf8_all p.key) (map encode_utf8_all (keys ps)) → AreApart (placed done p) ps
+pub later_apart : {X : Type 0} (done : List (Pair X)) (p : Pair X) (ps : List (Pair X)) → AreApart done ps → IsNew p.key (keys ps) → AreApart (placed done p) ps
 later_apart done p [] apart new = tt
 later_apart done p (r ∷ ps) apart new =
-    (apart-placed r done p apart.0 (λ e. new.0 (sym (same_bytes r.key p.key e))), later_apart done p ps apart.1 new.1)
+    (apart-placed r done p apart.0 (λ e. new.0 (sym (same_key r.key p.key e))), later_apart done p ps apart.1 new.1)
 
-moved-all_placed : {X : Type 0} (done ps : List (Pair X)) → AreApart done ps → IsDistinct (map encode_utf8_all (keys ps)) → IsPermutation (done ++ ps) (all_placed done ps)
+moved-all_placed : {X : Type 0} (done ps : List (Pair X)) → AreApart done ps → IsDistinct (keys ps) → IsPermutation (done ++ ps) (all_placed done ps)
 moved-all_placed done [] apart distinct = subst (λ qs. IsPermutation qs done) (sym (append-nil done)) (IsPermutation-refl done)
 moved-all_placed done (p ∷ ps) apart distinct =
     IsPermutation-trans (done ++ p ∷ ps) (p ∷ (done ++ ps)) (all_placed (placed done p) ps) (IsPermutation-middle done p ps)
@@ -151,5 +152,5 @@ pub none_apart : {X : Type 0} (ps : List (Pair X)) → AreApart [] ps
 none_apart [] = tt
 none_apart (p ∷ ps) = (tt, none_apart ps)
 
-pub permutation-sorted : {X : Type 0} (ps : List (Pair X)) → IsDistinct (map encode_utf8_all (keys ps)) → IsPermutation ps (sorted ps)
+pub permutation-sorted : {X : Type 0} (ps : List (Pair X)) → IsDistinct (keys ps) → IsPermutation ps (sorted ps)
 permutation-sorted ps distinct = moved-all_placed [] ps (none_apart ps) distinct

@@ -5,13 +5,15 @@ use Rattle.std.specs.List.{flat_map, list_any, list_all}
 use Rattle.json_doc.specs.declared.doc.Doc.{Doc, out-Doc, map-Doc}
 use Rattle.json_doc.specs.declared.doc.Doc.TheOpen.{Doc-F}
 use Rattle.json_doc.specs.declared.doc.Doc.TheFolds.{fold_out-Doc}
-use Rattle.json_doc.specs.declared.memory.OutOfMemory.{OutOfMemory}
-use Rattle.json_doc.specs.declared.pairs.Pair.{Pair}
+use Rattle.texts.specs.declared.memory.OutOfMemory.{OutOfMemory}
+use Rattle.texts.specs.declared.pairs.Pair.{Pair}
 use Rattle.out_format.specs.declared.section.Section.{Section}
 use Rattle.out_format.specs.Layers.{layer_of, scalar_of, scalar_text, is_scalar, is_object, items_in, fields_in}
+use Rattle.out_format.specs.Parts.{part_step, layer_step, has_object}
+use Rattle.out_format.proofs.PartLayers as parts
 use Rattle.out_format.specs.Members.{sorted}
 use Rattle.out_format.specs.Sections.{section_text, sections_text}
-use Rattle.out_format.specs.Table.{Part, part_of, part_step, layer_step, inner_step, sections_step, list_sections, entry_at, entry_sections, nested_sections, has_object, objects_sections, rows_sections, numbered, member_path, item_path, member_sections, members_sections, is_row, row_texts}
+use Rattle.out_format.specs.Table.{Part, part_of, inner_step, sections_step, list_sections, entry_at, entry_sections, nested_sections, objects_sections, rows_sections, numbered, member_path, item_path, member_sections, members_sections, is_row, row_texts}
 use Rattle.out_format.specs.Text.{texts_of}
 use Rattle.out_format.proofs.Layering.{on_value, text_kept, object_kept, scalar_kept, items_in-map, fields_in-map}
 use Rattle.out_format.proofs.Placing.{sorted-map}
@@ -53,52 +55,31 @@ texts_at (Doc-F.Fields ps) none = refl
 pub row-texts : (d : Doc) → is_scalar (out-Doc d) ≡ false → texts_of (map layer_of (items_in (out-Doc d))) ≡ row_texts (layer_of d)
 row-texts d none = texts_at (out-Doc d) none
 
--- one layer of a document, with its parts in place of its items or members
-abbrev parts_in : Doc → Doc-F Part
-parts_in d = map-Doc Doc Part part_of (out-Doc d)
+-- the parts of a document, whose layers are its own
 
-part-out : (d : Doc) → part_of d ≡ part_step (parts_in d)
-part-out d = fold_out-Doc Part part_step d
+abbrev parts_in : Doc → Doc-F Part
+parts_in = parts.parts_in sections_step inner_step
+
+part-out : (d : Doc) → part_of d ≡ part_step sections_step inner_step (parts_in d)
+part-out = parts.part-out sections_step inner_step
 
 text-same : (d : Doc) → scalar_text (part_of d).layer ≡ scalar_of d
-text-same d =
-    ap (λ p. scalar_text p.layer) (part-out d) ∙ text_kept (λ (p : Part). scalar_text p.layer) (parts_in d) ∙ text_kept part_of (out-Doc d)
+text-same = parts.text-same sections_step inner_step
 
 object-same : (d : Doc) → is_object (part_of d).layer ≡ is_object (out-Doc d)
-object-same d =
-    ap (λ p. is_object p.layer) (part-out d) ∙ object_kept (λ (p : Part). scalar_text p.layer) (parts_in d) ∙ object_kept part_of (out-Doc d)
-
-texts-same : (ds : List Doc) → map (λ (p : Part). scalar_text p.layer) (map part_of ds) ≡ map scalar_of ds
-texts-same [] = refl
-texts-same (d ∷ ds) = ap (λ t. t ∷ map (λ (p : Part). scalar_text p.layer) (map part_of ds)) (text-same d) ∙ ap (λ ts. scalar_of d ∷ ts) (texts-same ds)
-
-member_text : (p : Pair Doc) → on_value (λ (q : Part). scalar_text q.layer) (on_value part_of p) ≡ on_value scalar_of p
-member_text p = ap (λ t. record { key = p.key; value = t }) (text-same p.value)
-
-member-texts-same : (ps : List (Pair Doc)) → map (on_value (λ (q : Part). scalar_text q.layer)) (map (on_value part_of) ps) ≡ map (on_value scalar_of) ps
-member-texts-same [] = refl
-member-texts-same (p ∷ ps) =
-    ap (λ t. t ∷ map (on_value (λ (q : Part). scalar_text q.layer)) (map (on_value part_of) ps)) (member_text p) ∙ ap (λ ts. on_value scalar_of p ∷ ts) (member-texts-same ps)
-
-layer-at : (x : Doc-F Doc) → layer_step (map-Doc Doc Part part_of x) ≡ map-Doc Doc (Option (List ℕ)) scalar_of x
-layer-at Doc-F.Null = refl
-layer-at (Doc-F.Flag flag) = refl
-layer-at (Doc-F.Number n) = refl
-layer-at (Doc-F.Str t) = refl
-layer-at (Doc-F.Items ds) = ap Doc-F.Items (texts-same ds)
-layer-at (Doc-F.Fields ps) = ap Doc-F.Fields (member-texts-same ps)
+object-same = parts.object-same sections_step inner_step
 
 layer-same : (d : Doc) → (part_of d).layer ≡ layer_of d
-layer-same d = ap (λ p. p.layer) (part-out d) ∙ layer-at (out-Doc d)
+layer-same = parts.layer-same sections_step inner_step
+
+layer-at : (x : Doc-F Doc) → layer_step (map-Doc Doc Part part_of x) ≡ map-Doc Doc (Option (List ℕ)) scalar_of x
+layer-at = parts.layer-at sections_step inner_step
 
 layers-same : (ds : List Doc) → map (λ (p : Part). p.layer) (map part_of ds) ≡ map layer_of ds
-layers-same [] = refl
-layers-same (d ∷ ds) = ap (λ l. l ∷ map (λ (p : Part). p.layer) (map part_of ds)) (layer-same d) ∙ ap (λ ls. layer_of d ∷ ls) (layers-same ds)
+layers-same = parts.layers-same sections_step inner_step
 
 has_object-same : (ds : List Doc) → has_object (map part_of ds) ≡ list_any (λ d. is_object (out-Doc d)) ds
-has_object-same [] = refl
-has_object-same (d ∷ ds) =
-    ap (λ b. b || has_object (map part_of ds)) (object-same d) ∙ ap (λ b. is_object (out-Doc d) || b) (has_object-same ds)
+has_object-same = parts.has_object-same sections_step inner_step
 
 -- the sections of a document by its kind
 
@@ -126,28 +107,28 @@ list_at (Doc-F.Str t) path none is = cc
 list_at (Doc-F.Items parts) path none is = refl
 list_at (Doc-F.Fields ps) path none is = cc
 
-pub sections-scalar : (d : Doc) (path : List ℕ) → is_scalar (out-Doc d) ≡ true → (part_of d).sections path ≡ rows_sections path (layer_of d ∷ [])
+pub sections-scalar : (d : Doc) (path : List ℕ) → is_scalar (out-Doc d) ≡ true → (part_of d).whole path ≡ rows_sections path (layer_of d ∷ [])
 sections-scalar d path is =
-    ap (λ p. p.sections path) (part-out d) ∙ scalar_at (parts_in d) path (scalar_kept part_of (out-Doc d) ∙ is)
+    ap (λ p. p.whole path) (part-out d) ∙ scalar_at (parts_in d) path (scalar_kept part_of (out-Doc d) ∙ is)
     ∙ ap (λ l. rows_sections path (l ∷ [])) (layer-at (out-Doc d))
 
-pub sections-object : (d : Doc) (path : List ℕ) → is_object (out-Doc d) ≡ true → (part_of d).sections path ≡ objects_sections path (layer_of d ∷ []) ++ (part_of d).inner path
+pub sections-object : (d : Doc) (path : List ℕ) → is_object (out-Doc d) ≡ true → (part_of d).whole path ≡ objects_sections path (layer_of d ∷ []) ++ (part_of d).inner path
 sections-object d path is =
-    ap (λ p. p.sections path) (part-out d) ∙ object_at (parts_in d) path (object_kept part_of (out-Doc d) ∙ is)
+    ap (λ p. p.whole path) (part-out d) ∙ object_at (parts_in d) path (object_kept part_of (out-Doc d) ∙ is)
     ∙ ap (λ l. objects_sections path (l ∷ []) ++ inner_step (parts_in d) path) (layer-at (out-Doc d))
     ∙ ap (λ p. objects_sections path (layer_of d ∷ []) ++ p.inner path) (sym (part-out d))
 
-pub sections-list : (d : Doc) (path : List ℕ) → is_scalar (out-Doc d) ≡ false → is_object (out-Doc d) ≡ false → (part_of d).sections path ≡ list_sections path (map part_of (items_in (out-Doc d)))
+pub sections-list : (d : Doc) (path : List ℕ) → is_scalar (out-Doc d) ≡ false → is_object (out-Doc d) ≡ false → (part_of d).whole path ≡ list_sections path (map part_of (items_in (out-Doc d)))
 sections-list d path none is =
-    ap (λ p. p.sections path) (part-out d) ∙ list_at (parts_in d) path (scalar_kept part_of (out-Doc d) ∙ none) (object_kept part_of (out-Doc d) ∙ is)
+    ap (λ p. p.whole path) (part-out d) ∙ list_at (parts_in d) path (scalar_kept part_of (out-Doc d) ∙ none) (object_kept part_of (out-Doc d) ∙ is)
     ∙ ap (list_sections path) (items_in-map part_of (out-Doc d))
 
 -- a member's sections, where it is no scalar
 abbrev pub nested_of : List ℕ → Pair Doc → List Section
-nested_of path p = if is_scalar (out-Doc p.value) then [] else (part_of p.value).sections (member_path path p.key)
+nested_of path p = if is_scalar (out-Doc p.value) then [] else (part_of p.value).whole (member_path path p.key)
 
 nested-same : (path : List ℕ) (p : Pair Doc) → member_sections path (on_value part_of p) ≡ nested_of path p
-nested-same path p = ap (λ t. if is_some t then [] else (part_of p.value).sections (member_path path p.key)) (text-same p.value)
+nested-same path p = ap (λ t. if is_some t then [] else (part_of p.value).whole (member_path path p.key)) (text-same p.value)
 
 all-nested : (path : List ℕ) (ps : List (Pair Doc)) → flat_map (member_sections path) (map (on_value part_of) ps) ≡ flat_map (nested_of path) ps
 all-nested path [] = refl
@@ -169,18 +150,18 @@ inner-out d path =
 -- an item
 
 pub entry-object : (d : Doc) (path : List ℕ) → is_object (out-Doc d) ≡ true → entry_at path (part_of d) ≡ (part_of d).inner path
-entry-object d path is = ap (λ b. if b then (part_of d).inner path else (part_of d).sections path) (object-same d ∙ is)
+entry-object d path is = ap (λ b. if b then (part_of d).inner path else (part_of d).whole path) (object-same d ∙ is)
 
-pub entry-other : (d : Doc) (path : List ℕ) → is_object (out-Doc d) ≡ false → entry_at path (part_of d) ≡ (part_of d).sections path
-entry-other d path is = ap (λ b. if b then (part_of d).inner path else (part_of d).sections path) (object-same d ∙ is)
+pub entry-other : (d : Doc) (path : List ℕ) → is_object (out-Doc d) ≡ false → entry_at path (part_of d) ≡ (part_of d).whole path
+entry-other d path is = ap (λ b. if b then (part_of d).inner path else (part_of d).whole path) (object-same d ∙ is)
 
 pub nested-row : (d : Doc) (path : List ℕ) (place : ℕ) → is_row (layer_of d) ≡ true → nested_sections path place (part_of d) ≡ []
 nested-row d path place is =
-    ap (λ l. if is_row l then [] else (part_of d).sections (item_path path place)) (layer-same d) ∙ ap (λ b. if b then [] else (part_of d).sections (item_path path place)) is
+    ap (λ l. if is_row l then [] else (part_of d).whole (item_path path place)) (layer-same d) ∙ ap (λ b. if b then [] else (part_of d).whole (item_path path place)) is
 
-pub nested-other : (d : Doc) (path : List ℕ) (place : ℕ) → is_row (layer_of d) ≡ false → nested_sections path place (part_of d) ≡ (part_of d).sections (item_path path place)
+pub nested-other : (d : Doc) (path : List ℕ) (place : ℕ) → is_row (layer_of d) ≡ false → nested_sections path place (part_of d) ≡ (part_of d).whole (item_path path place)
 nested-other d path place is =
-    ap (λ l. if is_row l then [] else (part_of d).sections (item_path path place)) (layer-same d) ∙ ap (λ b. if b then [] else (part_of d).sections (item_path path place)) is
+    ap (λ l. if is_row l then [] else (part_of d).whole (item_path path place)) (layer-same d) ∙ ap (λ b. if b then [] else (part_of d).whole (item_path path place)) is
 
 -- lists
 

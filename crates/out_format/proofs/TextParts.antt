@@ -5,11 +5,13 @@ use Rattle.std.specs.List.{flat_map, list_any}
 use Rattle.json_doc.specs.declared.doc.Doc.{Doc, out-Doc, map-Doc}
 use Rattle.json_doc.specs.declared.doc.Doc.TheOpen.{Doc-F}
 use Rattle.json_doc.specs.declared.doc.Doc.TheFolds.{fold_out-Doc}
-use Rattle.json_doc.specs.declared.pairs.Pair.{Pair}
+use Rattle.texts.specs.declared.pairs.Pair.{Pair}
 use Rattle.out_format.specs.declared.cell.Cell.TheVariants.{Value}
 use Rattle.out_format.specs.Layers.{layer_of, scalar_of, scalar_text, is_scalar, is_object, items_in, fields_in}
+use Rattle.out_format.specs.Parts.{part_step, layer_step, has_object}
+use Rattle.out_format.proofs.PartLayers as parts
 use Rattle.out_format.specs.Members.{sorted, columns}
-use Rattle.out_format.specs.Text.{Line, Part, part_of, part_step, layer_step, inner_step, lines_step, list_lines, entry_lines, nested_lines, has_object, object_lines, scalars_lines, texts_of, member_lines, members_lines, behind_key, line_text, lines_text}
+use Rattle.out_format.specs.Text.{Line, Part, part_of, inner_step, lines_step, list_lines, entry_lines, nested_lines, object_lines, scalars_lines, texts_of, member_lines, members_lines, behind_key, line_text, lines_text}
 use Rattle.out_format.proofs.Layering.{on_value, text_kept, object_kept, scalar_kept, items_in-map, fields_in-map}
 use Rattle.out_format.proofs.Placing.{sorted-map}
 
@@ -21,52 +23,31 @@ pub lines_text-append : (xs ys : List Line) → lines_text (xs ++ ys) ≡ lines_
 lines_text-append [] ys = refl
 lines_text-append (x ∷ xs) ys = ap (λ cs. line_text x ++ cs) (lines_text-append xs ys) ∙ sym (append_assoc (line_text x) (lines_text xs) (lines_text ys))
 
--- one layer of a document, with its parts in place of its items or members
-abbrev parts_in : Doc → Doc-F Part
-parts_in d = map-Doc Doc Part part_of (out-Doc d)
+-- the parts of a document, whose layers are its own
 
-part-out : (d : Doc) → part_of d ≡ part_step (parts_in d)
-part-out d = fold_out-Doc Part part_step d
+abbrev parts_in : Doc → Doc-F Part
+parts_in = parts.parts_in lines_step inner_step
+
+part-out : (d : Doc) → part_of d ≡ part_step lines_step inner_step (parts_in d)
+part-out = parts.part-out lines_step inner_step
 
 pub text-same : (d : Doc) → scalar_text (part_of d).layer ≡ scalar_of d
-text-same d =
-    ap (λ p. scalar_text p.layer) (part-out d) ∙ text_kept (λ (p : Part). scalar_text p.layer) (parts_in d) ∙ text_kept part_of (out-Doc d)
+text-same = parts.text-same lines_step inner_step
 
 pub object-same : (d : Doc) → is_object (part_of d).layer ≡ is_object (out-Doc d)
-object-same d =
-    ap (λ p. is_object p.layer) (part-out d) ∙ object_kept (λ (p : Part). scalar_text p.layer) (parts_in d) ∙ object_kept part_of (out-Doc d)
-
-texts-same : (ds : List Doc) → map (λ (p : Part). scalar_text p.layer) (map part_of ds) ≡ map scalar_of ds
-texts-same [] = refl
-texts-same (d ∷ ds) = ap (λ t. t ∷ map (λ (p : Part). scalar_text p.layer) (map part_of ds)) (text-same d) ∙ ap (λ ts. scalar_of d ∷ ts) (texts-same ds)
-
-member_text : (p : Pair Doc) → on_value (λ (q : Part). scalar_text q.layer) (on_value part_of p) ≡ on_value scalar_of p
-member_text p = ap (λ t. record { key = p.key; value = t }) (text-same p.value)
-
-member-texts-same : (ps : List (Pair Doc)) → map (on_value (λ (q : Part). scalar_text q.layer)) (map (on_value part_of) ps) ≡ map (on_value scalar_of) ps
-member-texts-same [] = refl
-member-texts-same (p ∷ ps) =
-    ap (λ t. t ∷ map (on_value (λ (q : Part). scalar_text q.layer)) (map (on_value part_of) ps)) (member_text p) ∙ ap (λ ts. on_value scalar_of p ∷ ts) (member-texts-same ps)
-
-layer-at : (x : Doc-F Doc) → layer_step (map-Doc Doc Part part_of x) ≡ map-Doc Doc (Option (List ℕ)) scalar_of x
-layer-at Doc-F.Null = refl
-layer-at (Doc-F.Flag flag) = refl
-layer-at (Doc-F.Number n) = refl
-layer-at (Doc-F.Str t) = refl
-layer-at (Doc-F.Items ds) = ap Doc-F.Items (texts-same ds)
-layer-at (Doc-F.Fields ps) = ap Doc-F.Fields (member-texts-same ps)
+object-same = parts.object-same lines_step inner_step
 
 pub layer-same : (d : Doc) → (part_of d).layer ≡ layer_of d
-layer-same d = ap (λ p. p.layer) (part-out d) ∙ layer-at (out-Doc d)
+layer-same = parts.layer-same lines_step inner_step
+
+layer-at : (x : Doc-F Doc) → layer_step (map-Doc Doc Part part_of x) ≡ map-Doc Doc (Option (List ℕ)) scalar_of x
+layer-at = parts.layer-at lines_step inner_step
 
 pub layers-same : (ds : List Doc) → map (λ (p : Part). p.layer) (map part_of ds) ≡ map layer_of ds
-layers-same [] = refl
-layers-same (d ∷ ds) = ap (λ l. l ∷ map (λ (p : Part). p.layer) (map part_of ds)) (layer-same d) ∙ ap (λ ls. layer_of d ∷ ls) (layers-same ds)
+layers-same = parts.layers-same lines_step inner_step
 
 pub has_object-same : (ds : List Doc) → has_object (map part_of ds) ≡ list_any (λ d. is_object (out-Doc d)) ds
-has_object-same [] = refl
-has_object-same (d ∷ ds) =
-    ap (λ b. b || has_object (map part_of ds)) (object-same d) ∙ ap (λ b. is_object (out-Doc d) || b) (has_object-same ds)
+has_object-same = parts.has_object-same lines_step inner_step
 
 -- the lines of a document by its kind
 
@@ -94,31 +75,31 @@ list_at (Doc-F.Str t) id none is = cc
 list_at (Doc-F.Items parts) id none is = refl
 list_at (Doc-F.Fields ps) id none is = cc
 
-pub lines-scalar : (d : Doc) (id : Option (List ℕ)) → is_scalar (out-Doc d) ≡ true → (part_of d).lines id ≡ scalars_lines None (texts_of (layer_of d ∷ []))
+pub lines-scalar : (d : Doc) (id : Option (List ℕ)) → is_scalar (out-Doc d) ≡ true → (part_of d).whole id ≡ scalars_lines None (texts_of (layer_of d ∷ []))
 lines-scalar d id is =
-    ap (λ p. p.lines id) (part-out d) ∙ scalar_at (parts_in d) id (scalar_kept part_of (out-Doc d) ∙ is)
+    ap (λ p. p.whole id) (part-out d) ∙ scalar_at (parts_in d) id (scalar_kept part_of (out-Doc d) ∙ is)
     ∙ ap (λ t. scalars_lines None (option_to_list t)) (text_kept part_of (out-Doc d) ∙ sym (text_kept scalar_of (out-Doc d)))
     ∙ ap (scalars_lines None) (sym (append-nil (option_to_list (scalar_text (layer_of d)))))
 
-pub lines-object : (d : Doc) (id : Option (List ℕ)) → is_object (out-Doc d) ≡ true → (part_of d).lines id ≡ object_lines id (columns (layer_of d ∷ [])) (layer_of d) ++ (part_of d).inner
+pub lines-object : (d : Doc) (id : Option (List ℕ)) → is_object (out-Doc d) ≡ true → (part_of d).whole id ≡ object_lines id (columns (layer_of d ∷ [])) (layer_of d) ++ (part_of d).inner
 lines-object d id is =
-    ap (λ p. p.lines id) (part-out d) ∙ object_at (parts_in d) id (object_kept part_of (out-Doc d) ∙ is)
+    ap (λ p. p.whole id) (part-out d) ∙ object_at (parts_in d) id (object_kept part_of (out-Doc d) ∙ is)
     ∙ ap (λ l. object_lines id (columns (l ∷ [])) l ++ inner_step (parts_in d)) (layer-at (out-Doc d))
     ∙ ap (λ p. object_lines id (columns (layer_of d ∷ [])) (layer_of d) ++ p.inner) (sym (part-out d))
 
-pub lines-list : (d : Doc) (id : Option (List ℕ)) → is_scalar (out-Doc d) ≡ false → is_object (out-Doc d) ≡ false → (part_of d).lines id ≡ list_lines id (map part_of (items_in (out-Doc d)))
+pub lines-list : (d : Doc) (id : Option (List ℕ)) → is_scalar (out-Doc d) ≡ false → is_object (out-Doc d) ≡ false → (part_of d).whole id ≡ list_lines id (map part_of (items_in (out-Doc d)))
 lines-list d id none is =
-    ap (λ p. p.lines id) (part-out d) ∙ list_at (parts_in d) id (scalar_kept part_of (out-Doc d) ∙ none) (object_kept part_of (out-Doc d) ∙ is)
+    ap (λ p. p.whole id) (part-out d) ∙ list_at (parts_in d) id (scalar_kept part_of (out-Doc d) ∙ none) (object_kept part_of (out-Doc d) ∙ is)
     ∙ ap (list_lines id) (items_in-map part_of (out-Doc d))
 
 -- an object's line and its other members
 
 -- a member's lines, where it is no scalar
 abbrev pub nested_of : Pair Doc → List Line
-nested_of p = if is_scalar (out-Doc p.value) then [] else (part_of p.value).lines (Some p.key)
+nested_of p = if is_scalar (out-Doc p.value) then [] else (part_of p.value).whole (Some p.key)
 
 nested-same : (p : Pair Doc) → member_lines (on_value part_of p) ≡ nested_of p
-nested-same p = ap (λ t. if is_some t then [] else (part_of p.value).lines (Some p.key)) (text-same p.value)
+nested-same p = ap (λ t. if is_some t then [] else (part_of p.value).whole (Some p.key)) (text-same p.value)
 
 all-nested : (ps : List (Pair Doc)) → flat_map member_lines (map (on_value part_of) ps) ≡ flat_map nested_of ps
 all-nested [] = refl
@@ -142,18 +123,18 @@ inner-out d =
 pub entry-object : (d : Doc) (id : Option (List ℕ)) (keys' : List (List ℕ)) → is_object (out-Doc d) ≡ true
     → entry_lines id keys' (part_of d) ≡ object_lines id keys' (layer_of d) ++ (part_of d).inner
 entry-object d id keys' is =
-    ap (λ b. if b then object_lines id keys' (part_of d).layer ++ (part_of d).inner else (part_of d).lines id) (object-same d ∙ is)
+    ap (λ b. if b then object_lines id keys' (part_of d).layer ++ (part_of d).inner else (part_of d).whole id) (object-same d ∙ is)
     ∙ ap (λ l. object_lines id keys' l ++ (part_of d).inner) (layer-same d)
 
-pub entry-other : (d : Doc) (id : Option (List ℕ)) (keys' : List (List ℕ)) → is_object (out-Doc d) ≡ false → entry_lines id keys' (part_of d) ≡ (part_of d).lines id
+pub entry-other : (d : Doc) (id : Option (List ℕ)) (keys' : List (List ℕ)) → is_object (out-Doc d) ≡ false → entry_lines id keys' (part_of d) ≡ (part_of d).whole id
 entry-other d id keys' is =
-    ap (λ b. if b then object_lines id keys' (part_of d).layer ++ (part_of d).inner else (part_of d).lines id) (object-same d ∙ is)
+    ap (λ b. if b then object_lines id keys' (part_of d).layer ++ (part_of d).inner else (part_of d).whole id) (object-same d ∙ is)
 
 pub nested-scalar : (d : Doc) (id : Option (List ℕ)) → is_scalar (out-Doc d) ≡ true → nested_lines id (part_of d) ≡ []
-nested-scalar d id is = ap (λ t. if is_some t then [] else (part_of d).lines id) (text-same d) ∙ ap (λ b. if b then [] else (part_of d).lines id) is
+nested-scalar d id is = ap (λ t. if is_some t then [] else (part_of d).whole id) (text-same d) ∙ ap (λ b. if b then [] else (part_of d).whole id) is
 
-pub nested-other : (d : Doc) (id : Option (List ℕ)) → is_scalar (out-Doc d) ≡ false → nested_lines id (part_of d) ≡ (part_of d).lines id
-nested-other d id is = ap (λ t. if is_some t then [] else (part_of d).lines id) (text-same d) ∙ ap (λ b. if b then [] else (part_of d).lines id) is
+pub nested-other : (d : Doc) (id : Option (List ℕ)) → is_scalar (out-Doc d) ≡ false → nested_lines id (part_of d) ≡ (part_of d).whole id
+nested-other d id is = ap (λ t. if is_some t then [] else (part_of d).whole id) (text-same d) ∙ ap (λ b. if b then [] else (part_of d).whole id) is
 
 -- lists
 

@@ -2,7 +2,7 @@
 use Rattle.std.specs.Prelude.{ℕ, Bool, true, false, if◌then◌else◌, List, [], codes, Option, None, Some, is_some}
 use Rattle.json_doc.specs.declared.doc.Doc.{Doc, out-Doc, map-Doc}
 use Rattle.json_doc.specs.declared.doc.Doc.TheOpen.{Doc-F}
-use Rattle.json_doc.specs.declared.pairs.Pair.{Pair}
+use Rattle.texts.specs.declared.pairs.Pair.{Pair}
 use Rattle.json_doc.specs.DecimalText.{decimal_text}
 
 -- a scalar's text; a list and an object have none

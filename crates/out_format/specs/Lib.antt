@@ -4,6 +4,7 @@ pub mod Cells
 pub mod Json
 pub mod Layers
 pub mod Members
+pub mod Parts
 pub mod Scalars
 pub mod Sections
 pub mod Table

@@ -1,18 +1,13 @@
 -- The members of objects in the order of their keys, and the cells that their scalars fill.
-use Rattle.std.specs.Prelude.{ℕ, if◌then◌else◌, List, [], ◌∷◌, map, filter, Option, None, Some, is_some, encode_utf8_all, option_to_list}
+use Rattle.std.specs.Prelude.{ℕ, if◌then◌else◌, List, [], ◌∷◌, map, filter, Option, None, Some, is_some, option_to_list}
 use Rattle.std.specs.List.{flat_map}
-use Rattle.std.specs.declared.cmp.Ordering.{Ordering}
-use Rattle.std.specs.Ordering.{nat_cmp, match_ordering, is_eq}
-use Rattle.std.specs.Cmp.Lexicographic.{slice_cmp}
-use Rattle.json_doc.specs.declared.pairs.Pair.{Pair}
-use Rattle.json_doc.specs.Keys.{keys}
+use Rattle.std.specs.Ordering.{match_ordering, is_eq}
+use Rattle.texts.specs.declared.pairs.Pair.{Pair}
+use Rattle.texts.specs.Keys.{keys}
+use Rattle.texts.specs.Order.{text_cmp}
 use Rattle.out_format.specs.Layers.{Layer, fields_in}
 use Rattle.out_format.specs.declared.cell.Cell.{Cell}
 use Rattle.out_format.specs.declared.cell.Cell.TheVariants.{Empty, Value}
-
--- the order of texts by their bytes
-abbrev pub text_cmp : List ℕ → List ℕ → Ordering
-text_cmp a b = slice_cmp nat_cmp (encode_utf8_all a) (encode_utf8_all b)
 
 -- a member put into its place among ascending ones, in place of one at the same key
 abbrev pub placed : {X : Type 0} → List (Pair X) → Pair X → List (Pair X)
@@ -23,7 +18,7 @@ abbrev pub all_placed : {X : Type 0} → List (Pair X) → List (Pair X) → Lis
 all_placed done [] = done
 all_placed done (p ∷ ps) = all_placed (placed done p) ps
 
--- members in the order of their keys' bytes, each key once
+-- members in the order of their keys, each key once
 abbrev pub sorted : {X : Type 0} → List (Pair X) → List (Pair X)
 sorted ps = all_placed [] ps
 

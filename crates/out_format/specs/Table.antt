@@ -2,23 +2,20 @@
 use Rattle.std.specs.Prelude.{ℕ, ◌+◌, Bool, false, true, if◌then◌else◌, List, [], ◌∷◌, ◌++◌, map, filter, Option, None, Some, is_some, option_to_list}
 use Rattle.std.specs.Fmt.{decimal}
 use Rattle.std.specs.List.{flat_map, list_any, list_all}
-use Rattle.json_doc.specs.declared.doc.Doc.{Doc, map-Doc}
+use Rattle.json_doc.specs.declared.doc.Doc.{Doc}
 use Rattle.json_doc.specs.declared.doc.Doc.TheOpen.{Doc-F}
-use Rattle.json_doc.specs.declared.doc.Doc.TheFolds.{fold-Doc}
-use Rattle.json_doc.specs.declared.pairs.Pair.{Pair}
+use Rattle.texts.specs.declared.pairs.Pair.{Pair}
 use Rattle.out_format.specs.declared.cell.Cell.{Cell}
 use Rattle.out_format.specs.declared.cell.Cell.TheVariants.{Key, Value}
 use Rattle.out_format.specs.declared.section.Section.{Section}
 use Rattle.out_format.specs.Layers.{Layer, scalar_text, is_scalar, is_object}
 use Rattle.out_format.specs.Members.{sorted, columns, object_cells}
+use Rattle.out_format.specs.Parts.{PartOf, layer_step, has_object, folded}
 use Rattle.out_format.specs.Sections.{sections_text}
 
--- What the sections of a value need of a part of it: its outermost layer; its sections at a path; the
--- sections of those members that are no scalars.
-pub record Part : Type 0 where
-  pub layer : Layer
-  pub sections : List ℕ → List Section
-  pub inner : List ℕ → List Section
+-- a part with its sections at a path
+abbrev pub Part : Type 0
+Part = PartOf (List ℕ → List Section) (List ℕ → List Section)
 
 -- PATH.KEY
 abbrev pub member_path : List ℕ → List ℕ → List ℕ
@@ -62,7 +59,7 @@ rows_sections path layers =
 
 -- what an object's section leaves out
 abbrev pub member_sections : List ℕ → Pair Part → List Section
-member_sections path p = if is_scalar p.value.layer then [] else p.value.sections (member_path path p.key)
+member_sections path p = if is_scalar p.value.layer then [] else p.value.whole (member_path path p.key)
 
 abbrev pub members_sections : List ℕ → List (Pair Part) → List Section
 members_sections path ps = flat_map (member_sections path) (sorted ps)
@@ -74,17 +71,14 @@ numbered f place (x ∷ xs) = f place x ++ numbered f (place + 1) xs
 
 -- what the section of a list with an object leaves out of an item
 abbrev pub entry_at : List ℕ → Part → List Section
-entry_at path part = if is_object part.layer then part.inner path else part.sections path
+entry_at path part = if is_object part.layer then part.inner path else part.whole path
 
 abbrev pub entry_sections : List ℕ → ℕ → Part → List Section
 entry_sections path place part = entry_at (item_path path place) part
 
 -- what the section of another list leaves out of an item
 abbrev pub nested_sections : List ℕ → ℕ → Part → List Section
-nested_sections path place part = if is_row part.layer then [] else part.sections (item_path path place)
-
-abbrev pub has_object : List Part → Bool
-has_object parts = list_any (λ part. is_object part.layer) parts
+nested_sections path place part = if is_row part.layer then [] else part.whole (item_path path place)
 
 abbrev pub list_sections : List ℕ → List Part → List Section
 list_sections path parts =
@@ -92,10 +86,6 @@ list_sections path parts =
     if has_object parts
     then objects_sections path layers ++ numbered (entry_sections path) 0 parts
     else rows_sections path layers ++ numbered (nested_sections path) 0 parts
-
--- one layer of parts, with the text of each that is a scalar
-abbrev pub layer_step : Doc-F Part → Layer
-layer_step x = map-Doc Part (Option (List ℕ)) (λ part. scalar_text part.layer) x
 
 abbrev pub inner_step : Doc-F Part → List ℕ → List Section
 inner_step (Doc-F.Fields ps) path = members_sections path ps
@@ -106,11 +96,8 @@ sections_step (Doc-F.Items parts) path = list_sections path parts
 sections_step (Doc-F.Fields ps) path = objects_sections path (layer_step (Doc-F.Fields ps) ∷ []) ++ members_sections path ps
 sections_step scalar path = rows_sections path (layer_step scalar ∷ [])
 
-abbrev pub part_step : Doc-F Part → Part
-part_step x = record { layer = layer_step x; sections = sections_step x; inner = inner_step x }
-
 abbrev pub part_of : Doc → Part
-part_of = fold-Doc Part part_step
+part_of = folded sections_step inner_step
 
 abbrev pub table_of : List ℕ → Doc → List ℕ
-table_of title doc = sections_text ((part_of doc).sections title)
+table_of title doc = sections_text ((part_of doc).whole title)

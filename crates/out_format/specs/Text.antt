@@ -1,27 +1,24 @@
 -- A document as lines of cells with tabs between them.
-use Rattle.std.specs.Prelude.{ℕ, Bool, if◌then◌else◌, List, [], ◌∷◌, ◌++◌, map, Option, None, Some, option_to_list}
-use Rattle.std.specs.List.{flat_map, list_any}
+use Rattle.std.specs.Prelude.{ℕ, if◌then◌else◌, List, [], ◌∷◌, ◌++◌, map, Option, None, Some, option_to_list}
+use Rattle.std.specs.List.{flat_map}
 use Rattle.std.specs.Char.{to_ascii_uppercase}
-use Rattle.json_doc.specs.declared.doc.Doc.{Doc, map-Doc}
+use Rattle.json_doc.specs.declared.doc.Doc.{Doc}
 use Rattle.json_doc.specs.declared.doc.Doc.TheOpen.{Doc-F}
-use Rattle.json_doc.specs.declared.doc.Doc.TheFolds.{fold-Doc}
-use Rattle.json_doc.specs.declared.pairs.Pair.{Pair}
-use Rattle.json_doc.specs.Joined.{joined}
+use Rattle.texts.specs.declared.pairs.Pair.{Pair}
+use Rattle.texts.specs.Joined.{joined}
 use Rattle.out_format.specs.declared.cell.Cell.{Cell}
 use Rattle.out_format.specs.declared.cell.Cell.TheVariants.{Key, Value}
 use Rattle.out_format.specs.Cells.{cell_text}
 use Rattle.out_format.specs.Layers.{Layer, scalar_text, is_scalar, is_object}
 use Rattle.out_format.specs.Members.{sorted, columns, object_cells}
+use Rattle.out_format.specs.Parts.{PartOf, layer_step, has_object, folded}
 
 abbrev pub Line : Type 0
 Line = List Cell
 
--- What the lines of a value need of a part of it: its outermost layer; its lines, given the key of
--- the member in which they stand, where there is one; the lines of those members that are no scalars.
-pub record Part : Type 0 where
-  pub layer : Layer
-  pub lines : Option (List ℕ) → List Line
-  pub inner : List Line
+-- a part with its lines, given the key of the member in which they stand, where there is one
+abbrev pub Part : Type 0
+Part = PartOf (Option (List ℕ) → List Line) (List Line)
 
 -- ASCII letters in upper case
 abbrev pub upper : List ℕ → List ℕ
@@ -43,17 +40,14 @@ object_lines id columns layer = line_of id (object_cells columns layer)
 
 -- what an object's line leaves out
 abbrev pub member_lines : Pair Part → List Line
-member_lines p = if is_scalar p.value.layer then [] else p.value.lines (Some p.key)
+member_lines p = if is_scalar p.value.layer then [] else p.value.whole (Some p.key)
 
 abbrev pub members_lines : List (Pair Part) → List Line
 members_lines ps = flat_map member_lines (sorted ps)
 
-abbrev pub has_object : List Part → Bool
-has_object parts = list_any (λ part. is_object part.layer) parts
-
 -- an item of a list with an object
 abbrev pub entry_lines : Option (List ℕ) → List (List ℕ) → Part → List Line
-entry_lines id columns part = if is_object part.layer then object_lines id columns part.layer ++ part.inner else part.lines id
+entry_lines id columns part = if is_object part.layer then object_lines id columns part.layer ++ part.inner else part.whole id
 
 -- the scalars of another list: each behind the key, or all on one line
 abbrev pub scalars_lines : Option (List ℕ) → List (List ℕ) → List Line
@@ -65,7 +59,7 @@ texts_of layers = flat_map (λ layer. option_to_list (scalar_text layer)) layers
 
 -- the other items of such a list
 abbrev pub nested_lines : Option (List ℕ) → Part → List Line
-nested_lines id part = if is_scalar part.layer then [] else part.lines id
+nested_lines id part = if is_scalar part.layer then [] else part.whole id
 
 abbrev pub list_lines : Option (List ℕ) → List Part → List Line
 list_lines id parts =
@@ -73,10 +67,6 @@ list_lines id parts =
     if has_object parts
     then flat_map (entry_lines id (columns layers)) parts
     else scalars_lines id (texts_of layers) ++ flat_map (nested_lines id) parts
-
--- one layer of parts, with the text of each that is a scalar
-abbrev pub layer_step : Doc-F Part → Layer
-layer_step x = map-Doc Part (Option (List ℕ)) (λ part. scalar_text part.layer) x
 
 abbrev pub inner_step : Doc-F Part → List Line
 inner_step (Doc-F.Fields ps) = members_lines ps
@@ -89,11 +79,8 @@ lines_step (Doc-F.Fields ps) id =
     object_lines id (columns (layer ∷ [])) layer ++ members_lines ps
 lines_step scalar id = scalars_lines None (option_to_list (scalar_text scalar))
 
-abbrev pub part_step : Doc-F Part → Part
-part_step x = record { layer = layer_step x; lines = lines_step x; inner = inner_step x }
-
 abbrev pub part_of : Doc → Part
-part_of = fold-Doc Part part_step
+part_of = folded lines_step inner_step
 
 -- cells with a tab between each two, and a line end
 abbrev pub line_text : Line → List ℕ
@@ -103,4 +90,4 @@ abbrev pub lines_text : List Line → List ℕ
 lines_text lines = flat_map line_text lines
 
 abbrev pub text_of : Doc → List ℕ
-text_of doc = lines_text ((part_of doc).lines None)
+text_of doc = lines_text ((part_of doc).whole None)

@@ -2,10 +2,10 @@
 ghost use Rattle.std.specs.Prelude.{◌≡◌, ◌≤◌, ℕ, false, ◌∷◌, ◌++◌, List, map, length, encode_utf8_all, IsPermutation, Option};
 ghost use Rattle.std.specs.List.{AllByRecursion, flat_map};
 ghost use Rattle.json_doc.specs.declared.doc.Doc.{Doc, out-Doc};
-ghost use Rattle.json_doc.specs.declared.pairs.Pair.{Pair};
+ghost use Rattle.texts.specs.declared.pairs.Pair.{Pair};
 ghost use Rattle.json_doc.specs.Documents.{depth_of, IsProper};
 ghost use Rattle.json_doc.specs.Grammar.{Reads};
-ghost use Rattle.json_doc.specs.Keys.{keys, IsDistinct};
+ghost use Rattle.texts.specs.Keys.{keys, IsDistinct};
 ghost use Rattle.out_format.specs.Ascending.{IsAscending, has_key};
 ghost use Rattle.out_format.specs.Cells.{values};
 ghost use Rattle.out_format.specs.Json.{json_of, is_empty_object};
@@ -26,14 +26,14 @@ pub fn json_reads_back()
     texts_read_back();
 }
 
-/// The members of an object stand in ascending order of their keys' bytes, and are the object's
-/// own: none is lost and none comes twice where no two keys have the same bytes.
+/// The members of an object stand in ascending order of their keys, and are the object's own: none is
+/// lost and none comes twice.
 pub fn members_are_sorted()
     ensures ascending { (members : List (Pair Doc)) → IsAscending (keys (sorted members)) }
-    ensures same { (members : List (Pair Doc)) → IsDistinct (map encode_utf8_all (keys members)) → IsPermutation members (sorted members) }
+    ensures same { (members : List (Pair Doc)) → IsDistinct (keys members) → IsPermutation members (sorted members) }
 {}
 
-/// The columns of a list of objects stand in ascending order of their bytes, so each comes once, and
+/// The columns of a list of objects stand in ascending order, so each comes once, and
 /// they are just the keys that are scalar in some object.
 pub fn columns_are_scalar_keys()
     ensures ascending { (layers : List Layer) → IsAscending (columns layers) }
@@ -56,7 +56,7 @@ pub fn cells_hold_scalars()
 /// stands.
 pub fn text_holds_scalars()
     ensures { (doc : Doc) → IsProper doc → (id : Option (List ℕ)) →
-        IsPermutation (scalars_of doc) (line_values ((part_of doc).lines id)) }
+        IsPermutation (scalars_of doc) (line_values ((part_of doc).whole id)) }
 {}
 
 /// Each cell of a table, filled up with blanks, takes just the width of its column.

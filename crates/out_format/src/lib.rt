@@ -12,8 +12,6 @@ mod section;
 mod shown_cell;
 mod table_rows;
 mod table_sections;
-#[cfg(test)]
-mod tests;
 mod text_lines;
 
 pub use formats::{json, table, text};

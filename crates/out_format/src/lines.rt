@@ -1,8 +1,8 @@
 ghost use Rattle.std.specs.Prelude.{◌≡◌, ◌++◌, ◌∷◌, [], OnOk, IfOk, None, Some, map};
 ghost use Rattle.std.specs.Option.{option_map, option_to_list};
 ghost use Rattle.std.specs.List.{flat_map};
-ghost use Rattle.json_doc.specs.Keys.{keys};
-ghost use Rattle.json_doc.specs.Joined.{joined};
+ghost use Rattle.texts.specs.Keys.{keys};
+ghost use Rattle.texts.specs.Joined.{joined};
 ghost use Rattle.out_format.specs.Borrowed.{AreKeyed, members_of, with_text};
 ghost use Rattle.out_format.specs.Cells.{cell_text};
 ghost use Rattle.out_format.specs.Layers.{layer_of, scalar_of};

@@ -1,6 +1,6 @@
 ghost use Rattle.std.specs.Prelude.{◌≡◌, IfOk, OnOk, List as Seq, map};
 ghost use Rattle.std.specs.Option.{option_map, option_copied};
-ghost use Rattle.json_doc.specs.Keys.{keys};
+ghost use Rattle.texts.specs.Keys.{keys};
 ghost use Rattle.out_format.specs.Borrowed.{AreKeyed, members_of, with_text};
 ghost use Rattle.out_format.specs.Layers.{layer_of, scalar_of, fields_in};
 ghost use Rattle.out_format.specs.Members.{placed, all_placed, sorted, columns, member_at, cell_of, cell_at, object_cells};

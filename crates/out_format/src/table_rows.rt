@@ -1,6 +1,6 @@
 ghost use Rattle.std.specs.Prelude.{◌≡◌, ◌++◌, IfOk, OnOk, List as Seq, map, filter};
 ghost use Rattle.std.specs.List.{list_any};
-ghost use Rattle.json_doc.specs.Keys.{keys};
+ghost use Rattle.texts.specs.Keys.{keys};
 ghost use Rattle.json_doc.specs.declared.doc.Doc.{out-Doc};
 ghost use Rattle.out_format.specs.Borrowed.{AreKeyed, members_of};
 ghost use Rattle.out_format.specs.Layers.{layer_of, is_object};

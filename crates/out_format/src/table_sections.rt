@@ -18,7 +18,7 @@ pub(crate) fn write_sections(
     path: &Text,
     doc: &Doc,
 ) -> Result<(), OutOfMemory>
-    ensures { OnOk result (out.new ≡ out.old ++ sections_text ((part_of doc.now).sections path.now)) }
+    ensures { OnOk result (out.new ≡ out.old ++ sections_text ((part_of doc.now).whole path.now)) }
 {
     if is_scalar(doc) {
         return write_rows(alloc, out, path, slice::from_ref(doc));

@@ -1,7 +1,7 @@
 ghost use Rattle.std.specs.Prelude.{◌≡◌, ◌++◌, OnOk, map};
 ghost use Rattle.std.specs.Option.{option_map};
 ghost use Rattle.std.specs.List.{flat_map};
-ghost use Rattle.json_doc.specs.Keys.{keys};
+ghost use Rattle.texts.specs.Keys.{keys};
 ghost use Rattle.out_format.specs.Borrowed.{AreKeyed, members_of};
 ghost use Rattle.out_format.specs.Layers.{layer_of};
 ghost use Rattle.out_format.specs.Members as members;
@@ -23,7 +23,7 @@ pub(crate) fn write_lines(
     doc: &Doc,
     id: Option<&Text>,
 ) -> Result<(), OutOfMemory>
-    ensures { OnOk result (out.new ≡ out.old ++ lines_text ((part_of doc.now).lines (option_map (λ key. key.now) id.entry))) }
+    ensures { OnOk result (out.new ≡ out.old ++ lines_text ((part_of doc.now).whole (option_map (λ key. key.now) id.entry))) }
 {
     if is_scalar(doc) {
         return write_scalars(alloc, out, slice::from_ref(doc), None);

@@ -1,5 +1,5 @@
 use Rattle.std.proofs.Common.{◌≡◌, ◌++◌, map}
-use Rattle.json_doc.specs.Keys.{keys}
+use Rattle.texts.specs.Keys.{keys}
 use Rattle.out_format.specs.Borrowed.{members_of, with_text}
 use Rattle.out_format.specs.Members.{cell_at}
 use Rattle.out_format.proofs.members.cells.Given as goal

@@ -3,7 +3,7 @@ use Rattle.std.specs.Prelude.{filter}
 use Rattle.json_doc.specs.declared.doc.Doc.{out-Doc}
 use Rattle.out_format.specs.Layers.{is_scalar}
 use Rattle.std.specs.List.{flat_map}
-use Rattle.json_doc.specs.Keys.{keys}
+use Rattle.texts.specs.Keys.{keys}
 use Rattle.out_format.specs.Members.{all_placed}
 use Rattle.out_format.specs.Borrowed.{members_of}
 use Rattle.out_format.proofs.Placing.{scalar_fields, docs_more, columns-docs}

@@ -1,4 +1,4 @@
-use Rattle.json_doc.specs.Keys.{keys}
+use Rattle.texts.specs.Keys.{keys}
 use Rattle.out_format.specs.Borrowed.{members_of}
 use Rattle.out_format.proofs.Placing.{object_cells-same}
 use Rattle.out_format.proofs.members.object_cells.Goals as goal

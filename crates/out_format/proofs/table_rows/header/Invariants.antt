@@ -1,5 +1,5 @@
 use Rattle.std.proofs.Common.{◌≡◌, ◌++◌, map}
-use Rattle.json_doc.specs.Keys.{keys}
+use Rattle.texts.specs.Keys.{keys}
 use Rattle.out_format.specs.Borrowed.{members_of}
 use Rattle.out_format.specs.declared.cell.Cell.TheVariants.{Key}
 use Rattle.out_format.proofs.table_rows.header.Given as goal

@@ -1,6 +1,6 @@
 use Rattle.std.proofs.Common.{◌≡◌, ◌++◌, map, drop}
 use Rattle.std.specs.Prelude.{filter}
-use Rattle.json_doc.specs.Keys.{keys}
+use Rattle.texts.specs.Keys.{keys}
 use Rattle.out_format.specs.Borrowed.{members_of}
 use Rattle.out_format.specs.Layers.{layer_of, is_object}
 use Rattle.out_format.specs.Members.{object_cells}

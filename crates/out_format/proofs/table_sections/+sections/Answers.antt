@@ -52,7 +52,7 @@ write_nested-loop-place-preserved t c =
           let is = sym c.is_row.ensures ∙ w.if-not-is_row.true in
           ap (λ cs. cs ++ sections_text rest) w.out-is
           ∙ sections_behind (nested_sections path place (part_of item)) rest out w.write_sections.new.out
-          (w.in_ok-write_sections.ensures ∙ ap (λ p. out ++ sections_text ((part_of item).sections p)) w.in_ok-inner.ensures ∙ ap (λ ls. out ++ sections_text ls) (sym (nested-other item path place is)))
+          (w.in_ok-write_sections.ensures ∙ ap (λ p. out ++ sections_text ((part_of item).whole p)) w.in_ok-inner.ensures ∙ ap (λ ls. out ++ sections_text ls) (sym (nested-other item path place is)))
           ∙ order ∙ c.loop-place.invariant
       | write_nested-else-not-is_row w ↦
           let is = sym c.is_row.ensures ∙ w.if-not-is_row.false in

@@ -3,7 +3,7 @@ use Rattle.std.specs.List.{AllByRecursion, flat_map}
 use Rattle.std.specs.Option.{option_map}
 use Rattle.std.proofs.lemmas.List.{at_drop_more}
 use Rattle.json_doc.specs.declared.doc.Doc.{size-Doc}
-use Rattle.json_doc.specs.Keys.{keys}
+use Rattle.texts.specs.Keys.{keys}
 use Rattle.out_format.specs.Borrowed.{Entry, members_of}
 use Rattle.out_format.specs.Layers.{layer_of}
 use Rattle.out_format.specs.Members.{columns}

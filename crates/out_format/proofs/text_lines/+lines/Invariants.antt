@@ -3,7 +3,7 @@ use Rattle.std.specs.List.{AllByRecursion, flat_map}
 use Rattle.std.specs.Option.{option_map}
 use denote.Param.Weighed.{most}
 use Rattle.json_doc.specs.declared.doc.Doc.{size-Doc}
-use Rattle.json_doc.specs.Keys.{keys}
+use Rattle.texts.specs.Keys.{keys}
 use Rattle.out_format.specs.Borrowed.{members_of}
 use Rattle.out_format.specs.Text.{part_of, entry_lines, nested_lines, list_lines, lines_text}
 use Rattle.out_format.proofs.TextParts.{nested_of}
