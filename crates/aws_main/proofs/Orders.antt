@@ -1,17 +1,17 @@
--- The order of names by their bytes.
+-- The order of names.
 use Rattle.std.proofs.Common.{◌≡◌, ℕ, zero, suc, List, [], ◌∷◌, ◌++◌, Option, None, Some, refl, sym, ap, ◌∙◌, subst, arith, append_assoc, ◌⊎◌, inl, inr, ⊎_elim}
-use Rattle.std.specs.Prelude.{AllPairs, Contains, encode_utf8_all}
+use Rattle.std.specs.Prelude.{AllPairs, Contains}
 use Rattle.std.specs.Ordering.{ordering_reverse}
 use Rattle.std.specs.Cmp.Lexicographic.{nat_list_cmp_total}
-use Rattle.aws_world.specs.FileTree.{IsBefore}
+use Rattle.texts.specs.Order.{IsBefore}
 use Rattle.aws_main.specs.Folder.{IsUpTo, IsAfter}
 
 pub before_trans : (a b c : List ℕ) → IsBefore a b → IsBefore b c → IsBefore a c
-before_trans a b c p q = nat_list_cmp_total.trans (encode_utf8_all a) (encode_utf8_all b) (encode_utf8_all c) p q
+before_trans a b c p q = nat_list_cmp_total.trans a b c p q
 
 pub before_asym : (a b : List ℕ) → IsBefore a b → IsBefore b a → ⊥
 before_asym a b p q =
-    let e = nat_list_cmp_total.antisymm (encode_utf8_all a) (encode_utf8_all b) in
+    let e = nat_list_cmp_total.antisymm a b in
     let f = ap ordering_reverse q in
     cc
 

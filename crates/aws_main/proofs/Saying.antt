@@ -3,7 +3,7 @@ use Rattle.std.proofs.Common.{◌≡◌, ℕ, List, [], ◌∷◌, ◌++◌, len
 use Rattle.std.specs.Prelude.{encode_utf8_all, ◌&&◌, OnOk, OnErr, codes}
 use Rattle.std.proofs.lemmas.Str.{encodes-append, encode_ascii}
 use Rattle.std.proofs.lemmas.Bool.{ltb-true, lt-ltb}
-use Rattle.json_doc.specs.Ascii.{is_ascii_text}
+use Rattle.texts.specs.Ascii.{is_ascii_text}
 use Rattle.aws_world.specs.declared.link.LinkFault.{LinkFault}
 use Rattle.aws_world.specs.declared.link.LinkFault.TheVariants.{Connect, Timeout, Broken}
 use Rattle.service_model.specs.declared.operation.Refusal.{Refusal}

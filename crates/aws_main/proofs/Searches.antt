@@ -4,7 +4,8 @@ use Rattle.std.specs.Prelude.{AllPairs, Contains, Bool, true, false, ◌||◌, b
 use Rattle.std.specs.List.{list_any}
 use Rattle.std.proofs.lemmas.Option.{slice_get_within}
 use Rattle.std.proofs.lemmas.Slice.Eq.{bytes_eq-Decides}
-use Rattle.aws_world.specs.FileTree.{file_at, IsBefore, IsListing, IsChild, HasBelow}
+use Rattle.aws_world.specs.FileTree.{file_at, IsListing, IsChild, HasBelow}
+use Rattle.texts.specs.Order.{IsBefore}
 use Rattle.aws_main.specs.declared.searching.ModelFile.{ModelFile}
 use Rattle.aws_main.specs.declared.searching.Version.{Version}
 use Rattle.aws_main.specs.Folder.{Held, below, model_path, name_of, IsAfter, IsFile, IsFileAt, IsUpTo, IsListed, IsModelAt, IsNewer, IsNewest, IsVersion, IsVersionAt}

@@ -4,7 +4,8 @@ use Rattle.std.specs.List.{slice_split}
 use Rattle.std.specs.Option.{option_or}
 use Rattle.std.specs.Str.{chars}
 use Rattle.aws_world.specs.Env.{value_of}
-use Rattle.aws_world.specs.FileTree.{file_at, IsChild, IsBefore}
+use Rattle.aws_world.specs.FileTree.{file_at, IsChild}
+use Rattle.texts.specs.Order.{IsBefore}
 use Rattle.aws_main.specs.declared.searching.ModelFile.{ModelFile}
 use Rattle.aws_main.specs.declared.searching.ModelFile.TheVariants.{Whole, TooLong}
 use Rattle.aws_main.specs.declared.searching.Version.{Version}

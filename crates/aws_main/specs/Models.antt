@@ -4,6 +4,7 @@ use Rattle.json_doc.specs.declared.doc.Doc.{Doc}
 use Rattle.json_doc.specs.Grammar.{Reads}
 use Rattle.model_files.specs.declared.fault.ModelFault.{ModelFault}
 use Rattle.model_files.specs.declared.fault.ModelFault.TheVariants.{Missing, UnknownShape, WrongKind, Collides, OutOfMemory}
+use Rattle.model_files.specs.FaultText.{place_text}
 use Rattle.service_model.specs.declared.model.Table.{Table}
 use Rattle.service_model.specs.Models.{draft_of, IsRead}
 use Rattle.aws_main.specs.declared.causes.Unread.{Unread}
@@ -14,12 +15,12 @@ use Rattle.aws_main.specs.declared.searching.ModelFile.TheVariants.{Whole, TooLo
 use Rattle.aws_main.specs.declared.searching.Version.{Version}
 use Rattle.aws_main.specs.Folder.{Held, folders_of, IsNewest, IsLookedAt}
 
--- the place of a model's fault
+-- the place of a model's fault, its keys and positions joined by dots
 abbrev pub place_of : ModelFault → Option (List ℕ)
-place_of (Missing place) = Some place
-place_of (UnknownShape place) = Some place
-place_of (WrongKind place) = Some place
-place_of (Collides place) = Some place
+place_of (Missing place) = Some (place_text place)
+place_of (UnknownShape place) = Some (place_text place)
+place_of (WrongKind place) = Some (place_text place)
+place_of (Collides place) = Some (place_text place)
 place_of OutOfMemory = None
 
 -- the first fault of a model's document stands at this place

@@ -6,10 +6,10 @@ use Rattle.json_doc.specs.declared.doc.Doc as doc
 use Rattle.json_doc.specs.declared.doc.Doc.{Doc}
 use Rattle.json_doc.specs.declared.doc.Doc.TheOpen.{Doc-F}
 use Rattle.json_doc.specs.declared.doc.Doc.TheViews.{out-Doc}
-use Rattle.json_doc.specs.declared.pairs.Pair.{Pair}
+use Rattle.texts.specs.declared.pairs.Pair.{Pair}
 use Rattle.json_doc.specs.Grammar.{Reads, put_all}
 use Rattle.json_doc.specs.Indented.{indented_of}
-use Rattle.json_doc.specs.Keys.{value_at}
+use Rattle.texts.specs.Keys.{value_at}
 use Rattle.aws_world.specs.declared.message.Reply.{Reply}
 use Rattle.http_reply.specs.Fields.{header_of}
 use Rattle.aws_main.specs.declared.plain_operations.PlainMember.{PlainMember}

@@ -6,6 +6,7 @@ mod asking;
 mod causes;
 mod folders;
 mod laws;
+mod literals;
 mod messages;
 mod models;
 mod outputs;
@@ -15,7 +16,6 @@ mod requests;
 mod running;
 mod searching;
 mod sinks;
-mod texts;
 
 pub use causes::{Cause, Ending, UsageFault};
 pub use laws::one_is_due;

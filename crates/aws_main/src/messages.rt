@@ -19,6 +19,7 @@ const USAGE: &[u8] =
 pub fn say<E: Sink>(err: &mut E, cause: &Cause, words: &[Text])
     ensures says { Tells (E.taken err.old) (E.taken err.new)
         (Says (Rose (E.faults err.old) (E.faults err.new)) (message_bytes words.now cause.now)) }
+    ensures later { E.faults err.old ≤ E.faults err.new }
 {
     let _ = write_message(err, cause, words);
 }

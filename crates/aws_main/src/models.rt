@@ -2,19 +2,18 @@
 ghost use Rattle.std.specs.Prelude.{◌≡◌, IsTrue, IfOk, IfSome, IfNone};
 ghost use Rattle.json_doc.specs.declared.doc.Doc.{Doc as Document};
 ghost use Rattle.json_doc.specs.Grammar.{Reads};
-ghost use Rattle.json_doc.specs.Ascii.{is_ascii_text};
+ghost use Rattle.texts.specs.Ascii.{is_ascii_text};
 ghost use Rattle.aws_main.specs.Causes.{HasFileCause, Refuses};
 ghost use Rattle.aws_main.specs.Models.{bad_model_at, place_of, IsModelIn, IsModelOfNewest, IsSought, UnlessMemory};
 
 use crate::causes::{Unread, UsageFault};
 use crate::folders::model_folders;
+use crate::literals::literal;
 use crate::searching::{ModelFile, Version, newest_version};
-use crate::texts::literal;
 use aws_world::{Env, Files};
 use json_doc::{Doc, OutOfMemory, ReadFault, Text, read};
 use service_model::{Model, ModelFault};
 use std::alloc::Global;
-use std::mem;
 
 /// The model of a service: that of its newest version in the folders that the environment names.
 pub fn find_model<F: Files>(
@@ -24,6 +23,7 @@ pub fn find_model<F: Files>(
     service: &Text,
 ) -> Result<Model, Unread>
     ensures found { IsSought env.now.pairs (F.holds files.old) service.now result }
+    ensures kept { F.holds files.new ≡ F.holds files.old }
     ensures cause { HasFileCause (F.faults files.old) (F.faults files.new) result }
 {
     let folders = model_folders(alloc, env)?;
@@ -64,13 +64,9 @@ fn read_model(alloc: Global, file: &[u8]) -> Result<Model, Unread>
         Ok(None) => return Err(bad_file(alloc, "json")),
         Err(_) => return Err(Unread::OutOfMemory),
     };
-    let model = Model::read(alloc, &doc);
-    // To give a large document back part by part takes a sixth of a command's time; the end of the
-    // process gives it back at once.
-    mem::forget(doc);
-    match model {
+    match Model::read(alloc, &doc) {
         Ok(model) => Ok(model),
-        Err(fault) => Err(bad_model(alloc, place_of(fault))),
+        Err(fault) => Err(bad_model(alloc, place_of(alloc, fault))),
     }
 }
 
@@ -89,14 +85,14 @@ fn read_document(alloc: Global, file: &[u8]) -> Result<Option<Doc>, OutOfMemory>
 }
 
 /// The place of a fault, where it isn't want of memory.
-fn place_of(fault: ModelFault) -> Option<Text>
+fn place_of(alloc: Global, fault: ModelFault) -> Option<Text>
     ensures { result ≡ place_of fault }
 {
     match fault {
-        ModelFault::Missing(place) => Some(place),
-        ModelFault::UnknownShape(place) => Some(place),
-        ModelFault::WrongKind(place) => Some(place),
-        ModelFault::Collides(place) => Some(place),
+        ModelFault::Missing(place) => Some(place.text(alloc)),
+        ModelFault::UnknownShape(place) => Some(place.text(alloc)),
+        ModelFault::WrongKind(place) => Some(place.text(alloc)),
+        ModelFault::Collides(place) => Some(place.text(alloc)),
         ModelFault::OutOfMemory => None,
     }
 }

@@ -2,7 +2,7 @@ ghost use Rattle.std.specs.Prelude.{◌≡◌, ℕ, List, [], Some, IsTrue, IfOk
 ghost use Rattle.std.specs.List.{list_all};
 ghost use Rattle.std.specs.Option.{option_copied};
 ghost use Rattle.std.specs.Str.{str_eq_ignore_ascii_case};
-ghost use Rattle.json_doc.specs.Ascii.{is_ascii_text};
+ghost use Rattle.texts.specs.Ascii.{is_ascii_text};
 ghost use Rattle.json_doc.specs.Grammar.{put_all};
 ghost use Rattle.http_reply.specs.Fields.{header_of};
 ghost use Rattle.aws_main.specs.declared.causes.Unbuilt.TheVariants.{OutOfMemory as no_memory};

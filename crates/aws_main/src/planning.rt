@@ -31,6 +31,7 @@ pub fn plan<F: Files>(
 ) -> Result<Planned, Unread>
     ensures planned { IfOk result (IsPlanned words.now env.now.pairs (F.holds files.old)) }
     ensures refused { IfErr result (IsRefusal words.now env.now.pairs (F.holds files.old)) }
+    ensures kept { F.holds files.new ≡ F.holds files.old }
     ensures cause { HasFileCause (F.faults files.old) (F.faults files.new) result }
 {
     let asked = match read_words(alloc, words) {

@@ -2,8 +2,8 @@ ghost use Rattle.std.specs.Prelude.{◌≡◌, IfOk};
 ghost use Rattle.aws_main.specs.Request.{target_of, content_type_of, headers_of, message_of};
 
 use crate::asking::Asked;
+use crate::literals::literal;
 use crate::plain_operations::PlainOperation;
-use crate::texts::literal;
 use aws_world::Message;
 use json_doc::{Bytes, List, OutOfMemory, Text};
 use std::alloc::Global;

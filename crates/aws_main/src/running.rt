@@ -52,6 +52,15 @@ pub fn run<F: Files, L: Link, C: Clock, D: Dice, O: Sink, E: Sink>(
     ensures out_fault { IsOutFault result.cause → Rose (O.faults out.old) (O.faults out.new) }
     ensures no_moment { C.told _clock.new ≡ C.told _clock.old }
     ensures no_word { D.told _dice.new ≡ D.told _dice.old }
+
+    // Whatever comes, the files hold what they held and no count of faults falls.
+    ensures kept { F.holds files.new ≡ F.holds files.old }
+    ensures files_later { F.faults files.old ≤ F.faults files.new }
+    ensures link_later { L.faults link.old ≤ L.faults link.new }
+    ensures out_later { O.faults out.old ≤ O.faults out.new }
+    ensures err_later { E.faults err.old ≤ E.faults err.new }
+    ensures clock_later { C.faults _clock.old ≤ C.faults _clock.new }
+    ensures dice_later { D.faults _dice.old ≤ D.faults _dice.new }
 {
     let cause = work(alloc, words.as_slice(), env, files, link, out);
     say(err, &cause, words.as_slice());
@@ -80,6 +89,10 @@ fn work<F: Files, L: Link, O: Sink>(
     ensures file_fault { IsFileFault result → Rose (F.faults files.old) (F.faults files.new) }
     ensures lost { IsLost result → Rose (L.faults link.old) (L.faults link.new) }
     ensures out_fault { IsOutFault result → Rose (O.faults out.old) (O.faults out.new) }
+    ensures kept { F.holds files.new ≡ F.holds files.old }
+    ensures files_later { F.faults files.old ≤ F.faults files.new }
+    ensures link_later { L.faults link.old ≤ L.faults link.new }
+    ensures out_later { O.faults out.old ≤ O.faults out.new }
 {
     let planned = match plan(alloc, words, env, files) {
         Ok(planned) => planned,

@@ -2,7 +2,8 @@
 ghost use Rattle.std.specs.Prelude.{◌≡◌, false, IfOk, IfErr, IfSome, AllPairs, IsTrue};
 ghost use Rattle.std.specs.List.{list_any};
 ghost use Rattle.std.specs.Str.{chars, bytes_eq};
-ghost use Rattle.aws_world.specs.FileTree.{file_at, IsBefore, IsListing};
+ghost use Rattle.aws_world.specs.FileTree.{file_at, IsListing};
+ghost use Rattle.texts.specs.Order.{IsBefore};
 ghost use Rattle.aws_main.specs.Causes.{HasFileCause, FaultsAt};
 ghost use Rattle.aws_main.specs.Folder.{below, model_path, name_of, IsAfter, IsUpTo, IsFileAt, IsListed, IsVersion, IsNewer, IsNewest, IsLookedAt, IsLookedAtIn, IsPathAmong};
 
@@ -130,14 +131,14 @@ fn named_version(alloc: Global, name: &Text, file: ModelFile) -> Result<Version,
     })
 }
 
-/// Whether a name comes after that of the newest version so far, in the order of bytes.
+/// Whether a name comes after that of the newest version so far, in the order of texts.
 fn comes_after(name: &Text, newest: &Option<Version>) -> bool
     ensures after { IsTrue result → IsAfter (name_of newest.now) name.now }
     ensures up_to { result ≡ false → IsUpTo (name_of newest.now) name.now }
 {
     match newest {
         None => true,
-        Some(version) => match name.as_str().cmp(version.name.as_str()) {
+        Some(version) => match name.cmp(&version.name) {
             Ordering::Greater => true,
             Ordering::Equal => false,
             Ordering::Less => false,

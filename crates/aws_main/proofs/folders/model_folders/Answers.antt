@@ -1,5 +1,5 @@
 use Rattle.std.proofs.Common.{◌≡◌, None, Some, codes, refl, sym, ap, ◌∙◌}
-use Rattle.json_doc.proofs.Texts.{chars_ascii}
+use Rattle.texts.proofs.Texts.{chars_ascii}
 use Rattle.aws_world.specs.Env.{value_of}
 use Rattle.aws_main.specs.Folder.{folders_in, folders_named}
 use Rattle.aws_main.proofs.Told.{if_ok}

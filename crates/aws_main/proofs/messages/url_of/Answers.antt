@@ -1,5 +1,5 @@
 use Rattle.std.proofs.Common.{[], refl, sym, ◌∙◌}
-use Rattle.json_doc.proofs.Texts.{chars_ascii}
+use Rattle.texts.proofs.Texts.{chars_ascii}
 use Rattle.aws_main.proofs.Saying.{no_url}
 use Rattle.aws_main.proofs.messages.url_of.Goals as goal
 

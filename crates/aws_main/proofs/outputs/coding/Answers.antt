@@ -1,6 +1,6 @@
 use Rattle.std.proofs.Common.{codes, refl, ap, ◌∙◌}
 use Rattle.http_reply.specs.Fields.{header_of}
-use Rattle.json_doc.proofs.Texts.{chars_ascii}
+use Rattle.texts.proofs.Texts.{chars_ascii}
 use Rattle.aws_main.proofs.outputs.coding.Goals as goal
 
 pub returns : goal.returns

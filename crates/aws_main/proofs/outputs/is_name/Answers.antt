@@ -1,6 +1,6 @@
 use Rattle.std.proofs.Common.{ap, ◌∙◌}
 use Rattle.std.specs.Str.{str_eq_ignore_ascii_case}
-use Rattle.json_doc.proofs.Texts.{chars_ascii}
+use Rattle.texts.proofs.Texts.{chars_ascii}
 use Rattle.http_reply.proofs.CaseLemmas.{same_but_case}
 use Rattle.aws_main.proofs.outputs.is_name.Goals as goal
 

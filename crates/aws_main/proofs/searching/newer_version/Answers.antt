@@ -1,6 +1,7 @@
 use Rattle.std.proofs.Common.{◌≡◌, sym, ap, ◌∙◌, subst}
 use Rattle.std.specs.Prelude.{AllPairs, Contains, IfOk, IfSome}
-use Rattle.aws_world.specs.FileTree.{IsBefore, IsChild, IsListing}
+use Rattle.aws_world.specs.FileTree.{IsChild, IsListing}
+use Rattle.texts.specs.Order.{IsBefore}
 use Rattle.aws_main.specs.Folder.{below, model_path, IsListed, IsNewer, IsPathAmong}
 use Rattle.aws_main.specs.Folder.IsLookedAtIn.{at_version}
 use Rattle.aws_main.proofs.Searches.{listed_versions, unlisted}
