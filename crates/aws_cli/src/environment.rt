@@ -2,14 +2,17 @@ use json_doc::{List, OutOfMemory, Text};
 use std::alloc::Global;
 use std::env;
 use std::env::FillError;
+use std::io::ErrorKind;
 use std::rt::Env;
 
 /// The words after the program's name; none where one of them is no UTF-8.
 pub fn program_words(rt: &HostRuntime) -> Result<List<Text>, OutOfMemory> {
     let alloc = rt.alloc();
     let mut words = List::new(alloc);
-    let Ok(args) = env::args(rt) else {
-        return Ok(words);
+    let args = match env::args(rt) {
+        Ok(args) => args,
+        Err(error) if error.kind() == ErrorKind::OutOfMemory => return Err(OutOfMemory),
+        Err(_) => return Ok(words),
     };
     let mut is_name = true;
     for word in args {

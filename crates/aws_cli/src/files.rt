@@ -1,9 +1,10 @@
 ghost use Rattle.std.specs.Prelude.{◌≤◌, None, length, IfOk, IfSome};
 
+use crate::again::read_again;
 use aws_world::{FileEnd, Files};
 use json_doc::{Bytes, List, Text};
 use std::alloc::Global;
-use std::io::{ErrorKind, Read};
+use std::io::ErrorKind;
 use std::{fs, io};
 
 /// The system's files.
@@ -54,11 +55,15 @@ impl Files for RealFiles<'_> {
     }
 }
 
-/// The names in a folder, in the order of their bytes.
+/// The names in a folder, in the order of their bytes. One that is no UTF-8 is passed over.
 fn names_in(rt: &HostRuntime, alloc: Global, folder: &str) -> io::Result<List<Text>> {
     let mut names = Vec::new(alloc);
     for entry in fs::read_dir(rt, folder)? {
-        names.push(String::from_str(alloc, entry?.file_name())?)?;
+        match entry {
+            Ok(entry) => names.push(String::from_str(alloc, entry.file_name())?)?,
+            Err(error) if error.kind() == ErrorKind::InvalidFilename => {}
+            Err(error) => return Err(error),
+        }
     }
     names.sort()?;
     let mut texts = List::new(alloc);
@@ -78,7 +83,7 @@ fn bytes_of(rt: &HostRuntime, alloc: Global, path: &str, limit: u64) -> io::Resu
     let mut bytes = Vec::new(alloc);
     let mut room = [0u8; 8192];
     for _ in 0..u64::MAX {
-        let count = file.read(&mut room)?;
+        let count = read_again(&mut file, &mut room)?;
         if count == 0 {
             break;
         }

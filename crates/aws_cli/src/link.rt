@@ -1,14 +1,15 @@
 ghost use Rattle.std.specs.Prelude.{◌≡◌, false, None, is_some};
 
+use crate::again::{read_again, write_again};
 use aws_world::{Link, LinkFault};
 use json_doc::Text;
 use std::io;
-use std::io::{ErrorKind, Read, Write};
-use std::net::TcpStream;
+use std::io::ErrorKind;
+use std::net::{TcpStream, ToSocketAddrs};
 use std::time::Duration;
 
-/// How long a peer may be silent, in seconds.
-const READ_TIMEOUT: u64 = 60;
+/// How long connecting, sending and a peer's silence may take, in seconds.
+const TIMEOUT: u64 = 60;
 
 /// TCP connections.
 #[derive(Drop)]
@@ -32,10 +33,24 @@ impl<'a> RealLink<'a> {
     }
 
     fn open(&self, host: &str, port: u16) -> io::Result<TcpStream> {
-        let stream = TcpStream::connect(self.rt, (host, port))?;
-        stream.set_read_timeout(Some(Duration::from_secs(READ_TIMEOUT)))?;
+        let limit = Duration::from_secs(TIMEOUT);
+        let stream = connected(self.rt, host, port, limit)?;
+        stream.set_read_timeout(Some(limit))?;
+        stream.set_write_timeout(Some(limit))?;
         Ok(stream)
     }
+}
+
+/// A connection to the first of the host's addresses that answers within the limit.
+fn connected(rt: &HostRuntime, host: &str, port: u16, limit: Duration) -> io::Result<TcpStream> {
+    let mut last = io::Error::from(ErrorKind::AddrNotAvailable);
+    for address in (host, port).to_socket_addrs(rt)? {
+        match TcpStream::connect_timeout(rt, &address, limit) {
+            Ok(stream) => return Ok(stream),
+            Err(error) => last = error,
+        }
+    }
+    Err(last)
 }
 
 /// What an error of a live connection is.
@@ -73,7 +88,7 @@ impl Link for RealLink<'_> {
         let Some(stream) = &mut self.stream else {
             unreachable!()
         };
-        let fault = match stream.write(piece) {
+        let fault = match write_again(stream, piece) {
             Ok(count) if count > 0 => return Ok(count),
             Ok(_) => LinkFault::Broken,
             Err(error) => fault_of(&error),
@@ -87,7 +102,7 @@ impl Link for RealLink<'_> {
         let Some(stream) = &mut self.stream else {
             unreachable!()
         };
-        match stream.read(room) {
+        match read_again(stream, room) {
             Ok(count) => Ok(count),
             Err(error) => {
                 self.faults = self.faults.saturating_add(1);
@@ -104,6 +119,7 @@ impl Link for RealLink<'_> {
 #[cfg(test)]
 mod tests {
     use super::*;
+    use std::io::{Read, Write};
     use std::net::TcpListener;
     use std::test::Fail;
 

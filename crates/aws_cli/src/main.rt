@@ -1,6 +1,7 @@
 //! The command `aws`: the real outside, handed to what does all of the work.
 #![tactic(auto)]
 
+mod again;
 mod clock;
 mod environment;
 mod files;

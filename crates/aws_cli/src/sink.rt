@@ -1,5 +1,6 @@
 ghost use Rattle.std.specs.Prelude.{None};
 
+use crate::again::write_again;
 use aws_world::{Sink, SinkFault};
 use std::io::Write;
 
@@ -22,7 +23,7 @@ impl<W: Write> Sink for StreamSink<W> {
     ghost faults = { λ sink. sink.faults };
 
     fn write(&mut self, piece: &[u8]) -> Result<usize, SinkFault> {
-        match self.stream.write(piece) {
+        match write_again(&mut self.stream, piece) {
             Ok(count) if count > 0 => Ok(count),
             _ => {
                 self.faults = self.faults.saturating_add(1);
