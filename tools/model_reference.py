@@ -1,4 +1,4 @@
-"""A reading of botocore's model files by the rules of docs/RULES.md, written apart from the crate.
+"""A reading of botocore's model files by the rules of docs/rules/models.md, written apart from the crate.
 
 result(document) is the first fault with its place, or OK; lines(document) is each operation's command
 with the refusal of its admission.
