@@ -1,8 +1,8 @@
 -- What the operations of a model that was read keep.
-use Rattle.std.proofs.Common.{◌≡◌, ℕ, ◌<◌, Bool, true, false, not, ◌&&◌, ◌||◌, IsTrue, List, [], ◌∷◌, ◌++◌, map, length, slice_get, Option, None, Some, IfSome, option_map, option_and_then, Result, Ok, Err, bytes_eq, codes, refl, sym, ap, subst, ◌∙◌, arith}
-use Rattle.std.specs.List.{All, AllByRecursion, list_any, list_all}
+use Rattle.std.proofs.Common.{◌≡◌, ℕ, ◌<◌, Bool, true, false, not, ◌&&◌, ◌||◌, List, [], ◌∷◌, length, slice_get, Option, None, Some, IfSome, option_map, option_and_then, Ok, bytes_eq, codes, refl, sym, ap, subst, ◌∙◌, arith}
+use Rattle.std.specs.List.{AllByRecursion, list_any, list_all}
 use Rattle.std.specs.Option.{unwrap_or}
-use Rattle.std.proofs.lemmas.List.Elements.{All-from_recursion, All-nil}
+use Rattle.std.proofs.lemmas.List.Elements.{All-from_recursion}
 use Rattle.std.proofs.lemmas.Option.{IfSome_then}
 use lib.ListN.{length-map}
 use Rattle.std.proofs.lemmas.Slice.Eq.{bytes_eq-Decides}
@@ -11,7 +11,6 @@ use Rattle.json_doc.specs.declared.doc.Doc.TheOpen.{Doc-F}
 use Rattle.json_doc.specs.declared.doc.Doc.TheViews.{out-Doc}
 use Rattle.texts.specs.declared.pairs.Pair.{Pair}
 use Rattle.texts.specs.Keys.{value_at}
-use Rattle.model_files.specs.declared.fault.ModelFault.{ModelFault}
 use Rattle.model_files.specs.declared.fault.ModelFault.TheVariants.{WrongKind}
 use Rattle.model_files.specs.declared.fault.Place.TheVariants.{At}
 use Rattle.model_files.specs.Faults.{inside, demand}
@@ -20,7 +19,6 @@ use Rattle.model_files.specs.Reading.{Fields, fields_of, text_of, flag_of, flag_
 use Rattle.model_files.proofs.Steps.{same_ok, bind_ok, inside_ok, demand_ok, fields_ok, text_ok, needed_ok}
 use Rattle.service_model.specs.declared.labelled.LabelUse.{LabelUse}
 use Rattle.service_model.specs.declared.labelled.LabelUse.TheVariants.{Uri, Host}
-use Rattle.service_model.specs.declared.operations.Row.{Row}
 use Rattle.service_model.specs.declared.shape.Kind.{Kind}
 use Rattle.service_model.specs.declared.shape.Kind.TheVariants as kind
 use Rattle.service_model.specs.declared.shapes.Structure.{Structure}
@@ -31,15 +29,14 @@ use Rattle.service_model.specs.declared.shape.Shape.{Shape}
 use Rattle.service_model.specs.declared.shape.ShapeId.{ShapeId}
 use Rattle.service_model.specs.Admission.{members_at, members_in_maybe}
 use Rattle.service_model.specs.Arguments.{kind_of}
-use Rattle.service_model.specs.Choices.{location_named}
 use Rattle.service_model.specs.Kept.{IsWithin, item_kind, inner_kind, takes, IsMember, is_uri, fills_uri, fills_host, AreFilled}
 use Rattle.service_model.specs.Labels.{labels}
 use Rattle.service_model.specs.Locations.{is_scalar, can_stand, is_scalar_shape}
 use Rattle.service_model.specs.Members.{members_of, member_of, location_of, location_in, standing, host_label_of}
 use Rattle.service_model.specs.Metadata.{is_text}
-use Rattle.service_model.specs.Numbering.{Names, names_of, outline_of, value_in, value_in_view, text_in, text_if, text_in_view, number_of, kind_at, reference_in, structure_in, is_structure}
+use Rattle.service_model.specs.Numbering.{Names, names_of, value_in, text_in, text_if, text_in_view, number_of, kind_at, reference_in, structure_in, is_structure}
 use Rattle.service_model.specs.Operations.{fields_if, fields_if_view, if_structure, members_in, input_members, is_true_maybe_in, fills_labels, text_is, has_wire_name, is_labelled, names_one, are_named, uri_of, method_and_uri, http_in, http_of, structure_maybe, structure_at, prefix_in, endpoint_prefix, endpoint_in, host_prefix_of}
-use Rattle.service_model.specs.Shapes.{shape_of, shapes_of, structure_if, structure_of}
+use Rattle.service_model.specs.Shapes.{shapes_of, structure_if, structure_of}
 use Rattle.service_model.proofs.Soundness.{structure_in_ok, reference_in_within}
 use Rattle.service_model.proofs.KeptShapes.{IsReadMember, member_read, IsReference, reference_in_read, IsReadShape, shape_read, IsReadStructure, structure_read, IsKnown, known, kind_same, member_kept, or_true, true_last, value_read}
 

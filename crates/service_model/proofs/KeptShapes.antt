@@ -1,20 +1,17 @@
 -- What the shapes of a model that was read keep.
-use Rattle.std.proofs.Common.{◌≡◌, ℕ, ◌+◌, zero, suc, ◌<◌, Bool, true, false, not, ◌&&◌, ◌||◌, ◌⊎◌, inl, inr, IsTrue, List, [], ◌∷◌, map, length, get_or, slice_get, Option, None, Some, IfSome, IsSomeAnd, is_some, option_map, option_and_then, position, cond, Result, Ok, Err, bytes_eq, codes, refl, sym, ap, subst, ◌∙◌, arith}
+use Rattle.std.proofs.Common.{◌≡◌, ℕ, ◌+◌, zero, suc, ◌<◌, Bool, true, false, not, ◌&&◌, ◌||◌, List, [], ◌∷◌, map, length, get_or, slice_get, Option, None, Some, IfSome, IsSomeAnd, option_map, option_and_then, cond, Result, Ok, Err, bytes_eq, codes, refl, sym, ap, subst, ◌∙◌, arith}
 use Rattle.std.specs.List.{All, AllByRecursion, list_any}
 use Rattle.std.specs.Map.{lookup}
 use Rattle.std.specs.Fmt.{decimal}
 use Rattle.std.specs.Option.{unwrap_or}
 use lib.ListN.{length-map}
-use Rattle.std.proofs.ByRecursion.{All-weaker}
 use Rattle.std.proofs.lemmas.Option.{slice_get-map, IfSome_then}
 use Rattle.std.proofs.lemmas.List.Elements.{All-from_recursion, All-nil}
 use Rattle.std.proofs.lemmas.List.Quantifiers.{position-Some}
 use Rattle.std.proofs.lemmas.Slice.Eq.{bytes_eq-Decides}
 use Rattle.json_doc.specs.declared.doc.Doc.{Doc}
-use Rattle.json_doc.specs.declared.doc.Doc.TheOpen.{Doc-F}
-use Rattle.json_doc.specs.declared.doc.Doc.TheViews.{out-Doc}
 use Rattle.texts.specs.declared.pairs.Pair.{Pair}
-use Rattle.texts.specs.Keys.{value_at}
+use Rattle.texts.specs.Keys.{value_at, keys, IsDistinct}
 use Rattle.model_files.specs.declared.fault.ModelFault.{ModelFault}
 use Rattle.model_files.specs.declared.fault.ModelFault.TheVariants.{UnknownShape, WrongKind}
 use Rattle.model_files.specs.declared.fault.Place.TheVariants.{Whole, At}
@@ -35,13 +32,13 @@ use Rattle.service_model.specs.declared.shape.TimeForm.{TimeForm}
 use Rattle.service_model.specs.declared.shapes.Structure.{Structure}
 use Rattle.service_model.specs.Arguments.{kind_of}
 use Rattle.service_model.specs.Choices.{location_named}
-use Rattle.service_model.specs.Kept.{IsWithin, IsOfKind, item_at, item_kind, inner_kind, are_scalars, takes, IsMember, HasItems, IsShape}
-use Rattle.service_model.specs.Locations.{is_scalar, is_list, is_map, has_item, is_list_of_scalars, is_scalar_or_list, is_map_of_strings, is_map_of_these, can_be_at, can_stand, is_scalar_shape}
+use Rattle.service_model.specs.Kept.{HasOwnNames, IsWithin, IsOfKind, item_at, item_kind, inner_kind, are_scalars, takes, IsMember, HasItems, IsShape}
+use Rattle.service_model.specs.Locations.{is_scalar, is_list, is_map, has_item, is_scalar_or_list, is_map_of_these, can_be_at, can_stand, is_scalar_shape}
 use Rattle.service_model.specs.Members.{members_of, member_of, member_at, location_of, location_in, standing, time_of, roles_of, host_label_of, context_of}
 use Rattle.service_model.specs.Numbering.{Names, names_of, outline_of, outline_at, item_outline, value_in, value_in_view, text_in, text_if, text_in_view, named_at, item_of, number_of, kind_at, reference, reference_in, is_string}
 use Rattle.service_model.specs.Numbering as numbering
-use Rattle.service_model.specs.Shapes.{least_of, kind_of_shape, shape_of, shapes_of, structure_if, structure_of, no_structure, name_among, names_in, names_member, member_list, required_in, required_of, payload_in, payload_of, key_if, item_if, key_at, part_at, part_in, some_read}
-use Rattle.service_model.proofs.Soundness.{HasNamed, shape_as, shape_ok, reference_within, kinds_agree}
+use Rattle.service_model.specs.Shapes.{kind_of_shape, shape_of, shapes_of, structure_if, structure_of, no_structure, name_among, names_in, names_member, member_list, required_in, required_of, payload_in, payload_of, key_if, item_if, key_at, part_at, part_in, some_read}
+use Rattle.service_model.proofs.Soundness.{shape_as, shape_ok, reference_within, kinds_agree}
 
 module _ {A B : Type 0} (f : A → Result B ModelFault) where
   -- what each item gives has a property that each gives alone
@@ -122,6 +119,19 @@ member_read names p m e =
     bind_ok (reference names fields) (last fields) m e1 (λ id is_shape e2.
     bind_ok (location_of names fields id) (λ location. member_at names p fields id location) m e2 (λ location is_location is.
     member_made names p fields id location m there is_shape is_location is)))
+
+-- members have the names in the file
+member_names : (names : Names) (pairs : Fields) (members : List Member) → members_of names pairs ≡ Ok members → map (λ m. m.name) members ≡ keys pairs
+member_names names [] members e = ap (map (λ m. m.name)) (sym (same_ok [] members e))
+member_names names (p ∷ ps) members e =
+    bind_ok (inside p.key (member_of names p)) (λ m. members_of names ps >>= (λ others. Ok (m ∷ others))) members e (λ m first then_rest.
+    bind_ok (members_of names ps) (λ others. Ok (m ∷ others)) members then_rest (λ others rest all.
+    let r : IsReadMember names p m = member_read names p m (inside_ok p.key (member_of names p) m first) in
+    ap (map (λ x. x.name)) (sym (same_ok (m ∷ others) members all)) ∙ ap (λ n. n ∷ map (λ x. x.name) others) r.name ∙ ap (λ ns. p.key ∷ ns) (member_names names ps others rest)))
+
+-- keys that are distinct are names that are
+pub own_names : (names : Names) (pairs : Fields) (members : List Member) → IsDistinct (keys pairs) → members_of names pairs ≡ Ok members → HasOwnNames members
+own_names names pairs members distinct read = subst IsDistinct (sym (member_names names pairs members read)) distinct
 
 standing_ok : (names : Names) (id : ShapeId) (l o : Option Location) → standing names id l ≡ Ok o → IfSome o (λ x. can_stand names id x ≡ true)
 standing_ok names id None o e = absurd (cc)

@@ -6,6 +6,7 @@ pub mod KeptOperations
 pub mod KeptShapes
 pub mod Labelling
 pub mod Leading
+pub mod NamedShapes
 pub mod Noted
 pub mod Numbers
 pub mod Plus
@@ -13,4 +14,4 @@ pub mod Reading
 pub mod Refusals
 pub mod Sequences
 pub mod Soundness
-pub mod Whole
+pub mod WholeTables

@@ -1,7 +1,6 @@
 -- Reading a whole model.
 use Rattle.std.proofs.Common.{◌≡◌, T, ℕ, Bool, ◌<◌, ◌≤◌, ◌^◌, nat_le, length, map, List, [], ◌∷◌, Option, IfSome, Result, Ok, Err, codes, refl, sym, ap, ◌∙◌, subst, arith, leb→le}
-use Rattle.std.specs.List.{AllByRecursion}
-use Rattle.std.specs.List.{AllZip}
+use Rattle.std.specs.List.{All, AllByRecursion, AllZip}
 use Rattle.std.proofs.lemmas.List.Elements.{All-from_recursion, recursion_from_All}
 use Rattle.json_doc.specs.declared.doc.Doc.{Doc}
 use Rattle.texts.specs.Keys.{keys, IsDistinct}
@@ -20,10 +19,10 @@ use Rattle.service_model.specs.declared.shape.Member.{Member}
 use Rattle.service_model.specs.declared.shape.Shape.{Shape}
 use Rattle.service_model.specs.declared.shape.ShapeId.{ShapeId}
 use Rattle.service_model.specs.Admission.{IsAdmitted, members_at}
-use Rattle.service_model.specs.Kept.{AreFilled, fills_uri, fills_host, IsOperation}
+use Rattle.service_model.specs.Kept.{HasOwnNames, AreFilled, fills_uri, fills_host, IsOperation}
 use Rattle.service_model.specs.Models.{draft_of, parts_of, IsRead, IsSound, IsOfKind}
 use Rattle.model_files.proofs.Steps.{bind_ok, demand_ok, same_ok}
-use Rattle.service_model.proofs.Whole.{HasRowStructures, HasFilled, IsSoundEntries}
+use Rattle.service_model.proofs.WholeTables.{HasRowStructures, HasFilled, IsSoundEntries}
 
 -- a fault of a part is that of the model
 pub reads_fault : (doc : Doc) (result : Result Table ModelFault) (fault : ModelFault) → result ≡ Err fault → Fails fault (draft_of doc) → IsRead doc result
@@ -78,11 +77,13 @@ pub few_enough : (n : ℕ) → n ≤ 1000000 → n < 2 ^ 32
 few_enough n few = omega (arith, few)
 
 -- a table of parts that were read is sound
-pub sound_table : (protocol : Protocol) (pairs : Fields) (rows : List Row) (table : Table) → length pairs ≤ 1000000 → IsDistinct (keys pairs) → IsSoundEntries pairs rows table.shapes
+pub sound_table : (protocol : Protocol) (pairs : Fields) (rows : List Row) (table : Table) → length pairs ≤ 1000000 → IsDistinct (keys pairs) → All (λ shape. HasOwnNames shape.members) table.shapes
+    → IsSoundEntries pairs rows table.shapes
     → AllZip (IsAdmitted protocol table.shapes) rows table.operations → IsSound table
-sound_table protocol pairs rows table few distinct sound zip = record {
+sound_table protocol pairs rows table few distinct members sound zip = record {
   few = omega (arith, few, sound.as_many);
   shapes = sound.kept;
+  members = members;
   operations = All-from_recursion (IsOperation table.shapes) table.operations (operations_kept protocol table.shapes rows table.operations
       (recursion_from_All (HasRowStructures table.shapes) rows sound.structures) (recursion_from_All (HasFilled table.shapes) rows sound.filled) zip);
   names = subst IsDistinct (sym sound.names) distinct;

@@ -1,10 +1,11 @@
 -- Steps of reading in sequence: how all of them end.
 use Rattle.std.proofs.Common.{◌≡◌, Bool, false, Result, Ok, Err, sym, ap, subst, ◌∙◌}
-use Rattle.std.specs.Prelude.{IsErr, IsErrAnd}
+use Rattle.std.specs.Prelude.{IsErr, IsErrAnd, IfOk, ℕ, List}
 use Rattle.model_files.specs.declared.fault.ModelFault.{ModelFault}
-use Rattle.model_files.specs.Faults.{demand, Fails, IsFault, Gives}
+use Rattle.model_files.specs.Faults.{demand, inside, Fails, IsFault, Gives}
 use Rattle.texts.specs.Calls.{◌>>=◌}
 use Rattle.model_files.proofs.Each.{fails_same, is_due}
+use Rattle.model_files.proofs.Steps.{inside_ok}
 
 -- a step that goes well, before steps that fail
 pub then_fails : {A B : Type 0} (m : Result A ModelFault) (x : A) (f : A → Result B ModelFault) (fault : ModelFault) → m ≡ Ok x → Fails fault (f x) → Fails fault (m >>= f)
@@ -31,3 +32,7 @@ ends view due result fault is fails = subst (Gives view due) (sym is) fails
 -- a demand that isn't met
 pub demand_fails : {A : Type 0} (b : Bool) (fault due : ModelFault) (others : Result A ModelFault) → b ≡ false → IsFault fault due → Fails fault (demand b due others)
 demand_fails {A} b fault due others is fails = fails_same fault (Err due) (demand b due others) (ap (λ x. demand x due others) (sym is)) (is_due A fault due fails)
+
+-- what is known of what was read is known where it came well
+pub came_well : {A : Type 0} (P : A → Type 0) (key : List ℕ) (read : Result A ModelFault) (x : A) → IfOk read P → inside key read ≡ Ok x → P x
+came_well P key read x known is = subst (λ r. IfOk r P) (inside_ok key read x is) known

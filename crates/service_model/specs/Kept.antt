@@ -61,6 +61,10 @@ HasItems shapes kind.List key item = (key ≡ None) × IsSomeAnd item (IsWithin 
 HasItems shapes kind.Map key item = IsSomeAnd key (IsOfKind kind.Str shapes) × IsSomeAnd item (IsWithin shapes)
 HasItems shapes _ key item = (key ≡ None) × (item ≡ None)
 
+-- no two members have one name
+abbrev pub HasOwnNames : List Member → Type 0
+HasOwnNames members = IsDistinct (map (λ m. m.name) members)
+
 -- a shape's members and items are there, and what it requires and its payload are members of it
 pub record IsShape (shapes : List Shape) (shape : Shape) : Type 0 where
   pub members : All (IsMember shapes) shape.members

@@ -7,6 +7,7 @@ pub mod Locations
 pub mod Members
 pub mod Metadata
 pub mod Models
+pub mod Named
 pub mod Numbering
 pub mod Operations
 pub mod Reach

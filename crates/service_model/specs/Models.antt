@@ -17,7 +17,7 @@ use Rattle.service_model.specs.declared.shape.Kind.TheVariants.{Str}
 use Rattle.service_model.specs.declared.shape.Shape.{Shape}
 use Rattle.service_model.specs.Admission.{IsAdmitted}
 pub use Rattle.service_model.specs.Kept.{IsWithin, IsOfKind}
-use Rattle.service_model.specs.Kept.{IsShape, IsOperation}
+use Rattle.service_model.specs.Kept.{HasOwnNames, IsShape, IsOperation}
 use Rattle.service_model.specs.Metadata.{metadata_of}
 use Rattle.service_model.specs.Numbering.{names_of}
 use Rattle.service_model.specs.Operations.{operations_of}
@@ -75,6 +75,7 @@ HasParts shapes shape =
 pub record IsSound (table : Table) : Type 0 where
   pub few : length table.shapes ≤ 1000000
   pub shapes : All (IsShape table.shapes) table.shapes
+  pub members : All (λ shape. HasOwnNames shape.members) table.shapes
   pub operations : All (IsOperation table.shapes) table.operations
   pub names : IsDistinct (map (λ shape. shape.name) table.shapes)
   pub commands : IsDistinct (map (λ op. op.command) table.operations)

@@ -9,6 +9,7 @@ mod choices;
 mod fixed_values;
 mod labelled;
 mod labels;
+mod laws;
 mod locations;
 mod members;
 mod metadata;
@@ -21,6 +22,7 @@ mod shape;
 mod shapes;
 mod signing;
 
+pub use laws::members_have_named_shapes;
 pub use metadata::{Metadata, Protocol};
 pub use model::Model;
 pub use model_files::{
@@ -29,3 +31,4 @@ pub use model_files::{
 };
 pub use operation::{Operation, Refusal};
 pub use shape::{Kind, Location, Member, Shape, ShapeId, TimeForm};
+pub use shapes::whole;

@@ -2,6 +2,7 @@
 ghost use Rattle.std.specs.Prelude.{◌≡◌, ◌<◌, ◌^◌, length, unwrap_or, IfOk};
 ghost use Rattle.std.specs.Option.{option_copied};
 ghost use Rattle.model_files.specs.Faults.{Gives};
+ghost use Rattle.service_model.specs.Kept.{HasOwnNames};
 ghost use Rattle.service_model.specs.Locations.{is_scalar_shape};
 ghost use Rattle.service_model.specs.Members.{location_of, time_in, time_of, host_label_of, context_of, roles_of, member_at, member_of, members_of};
 
@@ -22,7 +23,8 @@ pub fn read_members(
     pairs: &Pairs<Doc>,
 ) -> Result<List<Member>, ModelFault>
     requires { length names.now.entries < 2 ^ 32 }
-    ensures { Gives (λ x. x) (members_of names.now.entries pairs.now) result }
+    ensures value { Gives (λ x. x) (members_of names.now.entries pairs.now) result }
+    ensures distinct { IfOk result (λ members. HasOwnNames members) }
 {
     let mut members = Vec::with_capacity(alloc, pairs.len())?;
     for pair in pairs.as_slice() {

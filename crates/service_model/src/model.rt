@@ -1,9 +1,10 @@
 ghost use Rattle.std.specs.Prelude.{◌≡◌, ◌<◌, ◌^◌, length, map, slice_get, Some, None, codes, IfOk, IfSome, MatchResult};
+ghost use Rattle.std.specs.List.{All};
 ghost use Rattle.std.specs.Option.{option_copied};
 ghost use Rattle.std.specs.Str.{chars};
 ghost use Rattle.model_files.specs.Faults.{inside, Gives};
 ghost use Rattle.texts.specs.Keys.{keys, IsDistinct};
-ghost use Rattle.service_model.specs.Kept.{IsShape, IsOperation};
+ghost use Rattle.service_model.specs.Kept.{HasOwnNames, IsShape, IsOperation};
 ghost use Rattle.service_model.specs.Metadata.{metadata_of};
 ghost use Rattle.service_model.specs.Models.{parts_of, entries_of, operation_named, IsRead};
 
@@ -88,6 +89,7 @@ impl Model {
         requires { id.0 < length self.now.shapes }
         ensures at { slice_get self.now.shapes id.0 ≡ Some result.now }
         ensures kept { IsShape self.now.shapes result.now }
+        ensures members { HasOwnNames result.now.members }
         ensures names { IsDistinct (map (λ shape. shape.name) self.now.shapes) }
     {
         &self.table.shapes.as_slice()[id.0 as usize]
@@ -168,7 +170,8 @@ fn read_entries(
     signs_by_v4: bool,
 ) -> Result<(Vec<Row>, List<Shape>), ModelFault>
     requires { length parts.now.shapes.now < 2 ^ 32 }
-    ensures { Gives (λ entries. (entries.0.items, entries.1)) (entries_of signs_by_v4 parts.now.operations.now parts.now.shapes.now) result }
+    ensures value { Gives (λ entries. (entries.0.items, entries.1)) (entries_of signs_by_v4 parts.now.operations.now parts.now.shapes.now) result }
+    ensures distinct { IfOk result (λ entries. All (λ shape. HasOwnNames shape.members) entries.1) }
 {
     let names = number_shapes(alloc, parts.shapes)?;
     let service = Service {

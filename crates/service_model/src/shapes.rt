@@ -1,8 +1,9 @@
 //! The shapes of a model.
 ghost use Rattle.std.specs.Prelude.{◌≡◌, ◌<◌, ◌^◌, ℕ, List as Seq, IsTrue, IfOk, bytes_eq, length};
-ghost use Rattle.std.specs.List.{list_any};
+ghost use Rattle.std.specs.List.{All, list_any};
 ghost use Rattle.texts.specs.Ascii.{is_ascii_text};
 ghost use Rattle.model_files.specs.Faults.{each_from, Gives};
+ghost use Rattle.service_model.specs.Kept.{HasOwnNames};
 ghost use Rattle.service_model.specs.Shapes.{kind_of_shape, names_member, names_in, name_among, member_list, required_of, payload_of, structure_of, structure_if, part_at, key_at, key_if, item_if, whole, least_of, shape_of, shapes_of};
 
 use crate::choices::kind_named;
@@ -24,7 +25,8 @@ pub fn read_shapes(
     pairs: &Pairs<Doc>,
 ) -> Result<List<Shape>, ModelFault>
     requires { length names.now.entries < 2 ^ 32 }
-    ensures { Gives (λ x. x) (shapes_of names.now.entries pairs.now) result }
+    ensures value { Gives (λ x. x) (shapes_of names.now.entries pairs.now) result }
+    ensures distinct { IfOk result (λ shapes. All (λ shape. HasOwnNames shape.members) shapes) }
 {
     let mut shapes = Vec::with_capacity(alloc, pairs.len())?;
     for pair in pairs.as_slice() {
@@ -37,7 +39,8 @@ pub fn read_shapes(
 #[tactic(auto, unfolding(crate::specs::Shapes::shape_of))]
 fn read_shape(alloc: Global, names: &Names, pair: &Pair<Doc>) -> Result<Shape, ModelFault>
     requires { length names.now.entries < 2 ^ 32 }
-    ensures { Gives (λ x. x) (shape_of names.now.entries pair.now) result }
+    ensures value { Gives (λ x. x) (shape_of names.now.entries pair.now) result }
+    ensures distinct { IfOk result (λ shape. HasOwnNames shape.members) }
 {
     let fields = object(&pair.value)?;
     let kind = read_kind(alloc, fields)?;
@@ -93,7 +96,8 @@ fn read_structure_of(
     kind: Kind,
 ) -> Result<Structure, ModelFault>
     requires { length names.now.entries < 2 ^ 32 }
-    ensures { Gives (λ x. x) (structure_if kind names.now.entries fields.now) result }
+    ensures value { Gives (λ x. x) (structure_if kind names.now.entries fields.now) result }
+    ensures distinct { IfOk result (λ structure. HasOwnNames structure.members) }
 {
     match kind {
         Kind::Structure => read_structure(alloc, names, fields),
@@ -116,7 +120,8 @@ fn read_structure(
     fields: &Pairs<Doc>,
 ) -> Result<Structure, ModelFault>
     requires { length names.now.entries < 2 ^ 32 }
-    ensures { Gives (λ x. x) (structure_of names.now.entries fields.now) result }
+    ensures value { Gives (λ x. x) (structure_of names.now.entries fields.now) result }
+    ensures distinct { IfOk result (λ structure. HasOwnNames structure.members) }
 {
     let pairs = object_at(alloc, fields, "members")?;
     let members = inside(alloc, "members", read_members(alloc, names, pairs))?;
@@ -316,7 +321,7 @@ fn least(fields: &Pairs<Doc>) -> Option<i64>
 }
 
 /// A decimal as a number in 64 bits, where it is one.
-fn whole(number: &Decimal) -> Option<i64>
+pub fn whole(number: &Decimal) -> Option<i64>
     ensures { result ≡ whole number.now }
 {
     if number.scale != 0 {

@@ -1,4 +1,4 @@
-use Rattle.std.proofs.Common.{◌≡◌, ℕ, ◌+◌, ◌<◌, List, true, length, set, take, sym, ap, subst, ◌∙◌, arith, length-set}
+use Rattle.std.proofs.Common.{◌≡◌, ◌+◌, ◌<◌, true, length, set, take, sym, ap, subst, ◌∙◌, arith, length-set}
 use Rattle.std.specs.List.{All}
 use Rattle.service_model.proofs.Refusals.{HasMark, known_here, marked_more, marked_same, marked_all}
 use Rattle.service_model.proofs.admission.input_marks.Goals as goal

@@ -1,6 +1,4 @@
-use Rattle.std.proofs.Common.{Ok, ap, sym, ◌∙◌}
 use Rattle.model_files.proofs.Each.{fails_first}
-use Rattle.service_model.specs.declared.shape.Member.{Member}
 use Rattle.service_model.specs.Members.{member_at}
 use Rattle.service_model.proofs.Sequences.{then_fails, then_gives, came, ends}
 use Rattle.service_model.proofs.members.member_at.Goals as goal

@@ -12,7 +12,7 @@ use Rattle.texts.specs.Keys.{value_at, keys, IsNew, IsDistinct}
 use Rattle.model_files.specs.declared.fault.ModelFault.{ModelFault}
 use Rattle.model_files.specs.declared.fault.ModelFault.TheVariants.{Collides}
 use Rattle.model_files.specs.declared.fault.Place.TheVariants.{At}
-use Rattle.model_files.specs.Faults.{inside, demand}
+use Rattle.model_files.specs.Faults.{inside}
 use Rattle.texts.specs.Calls.{◌>>=◌}
 use Rattle.model_files.specs.Names.{command_name}
 use Rattle.model_files.specs.Reading.{Fields, fields_of, text_at}
@@ -167,7 +167,7 @@ distinct_rows names shapes signs earlier (p ∷ ps) rows e =
     ((new.0, later.0), (r.command, new.1))))
 
 -- shapes have the names in the file
-names_read : (names : Names) (pairs : Fields) (shapes : List Shape) → shapes_of names pairs ≡ Ok shapes → map (λ s. s.name) shapes ≡ keys pairs
+pub names_read : (names : Names) (pairs : Fields) (shapes : List Shape) → shapes_of names pairs ≡ Ok shapes → map (λ s. s.name) shapes ≡ keys pairs
 names_read names [] shapes e = ap (map (λ s. s.name)) (sym (same_ok [] shapes e))
 names_read names (p ∷ ps) shapes e =
     bind_ok (inside p.key (shape_of names p)) (λ s. shapes_of names ps >>= (λ others. Ok (s ∷ others))) shapes e (λ s first then_rest.
