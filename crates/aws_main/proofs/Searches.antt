@@ -1,14 +1,12 @@
 -- The search for a service's model among the files.
 use Rattle.std.proofs.Common.{◌≡◌, ℕ, zero, suc, ◌<◌, ◌≤◌, List, [], ◌∷◌, ◌++◌, length, Option, None, Some, refl, sym, ap, ◌∙◌, subst, arith, ◌⊎◌, ⊎_elim}
-use Rattle.std.specs.Prelude.{AllPairs, Contains, Bool, true, false, ◌||◌, bytes_eq, slice_get}
-use Rattle.std.specs.List.{list_any}
+use Rattle.std.specs.Prelude.{AllPairs, Contains, true, false, slice_get}
 use Rattle.std.proofs.lemmas.Option.{slice_get_within}
-use Rattle.std.proofs.lemmas.Slice.Eq.{bytes_eq-Decides}
 use Rattle.aws_world.specs.FileTree.{file_at, IsListing, IsChild, HasBelow}
 use Rattle.texts.specs.Order.{IsBefore}
 use Rattle.aws_main.specs.declared.searching.ModelFile.{ModelFile}
 use Rattle.aws_main.specs.declared.searching.Version.{Version}
-use Rattle.aws_main.specs.Folder.{Held, below, model_path, name_of, IsAfter, IsFile, IsFileAt, IsUpTo, IsListed, IsModelAt, IsNewer, IsNewest, IsVersion, IsVersionAt}
+use Rattle.aws_main.specs.Folder.{Held, below, is_plain, model_path, name_of, IsAfter, IsFile, IsFileAt, IsUpTo, IsListed, IsModelAt, IsNewer, IsNewest, IsVersion, IsVersionAt}
 use Rattle.aws_main.proofs.Orders.{behind_or_up_to, contains_middle, up_to_trans}
 use Rattle.aws_main.proofs.Versions.{newer_same, newer_none, newest_of_all, one_file, one_newest, Before}
 use Rattle.aws_main.specs.Folder.{IsNewestOf}
@@ -26,29 +24,8 @@ no_names folder files empty = record {
   exact = λ name. (λ among. absurd (omega (arith, among.1)), λ child. absurd (empty (below_of_child folder files name child)));
 }
 
-any_named : (known name : List ℕ) (names : List (List ℕ)) (same : Bool) → bytes_eq known name ≡ same
-    → (list_any (λ other. bytes_eq other name) names ≡ true → Contains names name) → same || list_any (λ other. bytes_eq other name) names ≡ true → Contains (known ∷ names) name
-any_named known name names true is more e = (0, omega arith, (bytes_eq-Decides known name).0 is)
-any_named known name names false is more e = let found = more e in (suc found.0, omega (arith, found.1), found.2)
-
--- a name that is found in a list is among its names
-pub contains_found : (names : List (List ℕ)) (name : List ℕ) → list_any (λ known. bytes_eq known name) names ≡ true → Contains names name
-contains_found [] name e = cc
-contains_found (known ∷ names) name e = any_named known name names (bytes_eq known name) refl (contains_found names name) e
-
-or_false : (a b : Bool) → (a || b) ≡ false → (a ≡ false) × (b ≡ false)
-or_false false b e = (refl, e)
-or_false true b e = cc
-
--- a name that is not found isn't
-pub contains_missing : (names : List (List ℕ)) (name : List ℕ) → list_any (λ known. bytes_eq known name) names ≡ false → Contains names name → ⊥
-contains_missing [] name e (k, within, is) = omega arith
-contains_missing (known ∷ names) name e (zero, within, is) =
-    let apart = (or_false (bytes_eq known name) (list_any (λ other. bytes_eq other name) names) e).0 in
-    let same = (bytes_eq-Decides known name).1 is in
-    cc
-contains_missing (known ∷ names) name e (suc k, within, is) =
-    contains_missing names name (or_false (bytes_eq known name) (list_any (λ other. bytes_eq other name) names) e).1 (k, omega arith, is)
+true_not_false : true ≡ false → ⊥
+true_not_false e = absurd (cc)
 
 -- none of these names has a model file
 abbrev pub HasNone : Held → List ℕ → List (List ℕ) → Type 0
@@ -114,21 +91,19 @@ pub none_here : (files : Held) (folder name path : List ℕ) (found : Option Mod
 none_here files folder name path found is here none file there =
     subst (λ bytes. IsFile bytes file) (sym (ap (λ p. file_at p files) is) ∙ subst (IsFileAt (file_at path files)) none here) there
 
--- a service that isn't listed has no versions
-pub unlisted : (files : Held) (folder service : List ℕ) (names : List (List ℕ)) (newest : Option Version) → IsListing folder files names
-    → list_any (λ known. bytes_eq known service) names ≡ false → IsNewer (IsVersion files folder service) newest None
-unlisted files folder service names newest listing missing =
-    newer_none (IsVersion files folder service) newest
-    (λ name file version. contains_missing names service missing ((listing.exact service).1 version.service_is))
+-- what can't name a service has no versions
+pub no_service : (files : Held) (folder service : List ℕ) (newest : Option Version) → is_plain service ≡ false → IsNewer (IsVersion files folder service) newest None
+no_service files folder service newest not_plain =
+    newer_none (IsVersion files folder service) newest (λ name file version. true_not_false (sym version.service_is ∙ not_plain))
 
--- the versions of a service that is listed are those listed below it
-pub listed_versions : (files : Held) (folder service path : List ℕ) (names versions : List (List ℕ)) (newest newer : Option Version) → IsListing folder files names
-    → list_any (λ known. bytes_eq known service) names ≡ true → path ≡ below folder service → IsListing path files versions
+-- the versions of a service are those that are listed in its folder
+pub listed_versions : (files : Held) (folder service path : List ℕ) (versions : List (List ℕ)) (newest newer : Option Version)
+    → is_plain service ≡ true → path ≡ below folder service → IsListing path files versions
     → IsNewer (IsListed files path versions) newest newer → IsNewer (IsVersion files folder service) newest newer
-listed_versions files folder service path names versions newest newer listing found is below_it newer_is =
+listed_versions files folder service path versions newest newer plain is below_it newer_is =
     newer_same (IsListed files path versions) (IsVersion files folder service) newest newer
     (λ name file listed. record {
-      service_is = (listing.exact service).0 (contains_found names service found);
+      service_is = plain;
       version_is = subst (λ p. IsChild p files name) is ((below_it.exact name).0 listed.0);
       file_is = subst (λ p. IsModelAt files p name file) is listed.1;
     })

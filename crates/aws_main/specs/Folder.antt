@@ -1,6 +1,6 @@
 -- Where a service's model stands among the files.
-use Rattle.std.specs.Prelude.{◌≡◌, ℕ, ◌<◌, ◌≤◌, ◌⊎◌, List, [], ◌∷◌, ◌++◌, Option, None, Some, length, codes, flat_map, option_map, slice_get, encode_utf8_all, Contains, IfSome}
-use Rattle.std.specs.List.{slice_split}
+use Rattle.std.specs.Prelude.{◌≡◌, ℕ, ◌<◌, ◌≤◌, ◌==◌, ◌⊎◌, Bool, not, ◌&&◌, IsTrue, bytes_eq, List, [], ◌∷◌, ◌++◌, Option, None, Some, length, codes, flat_map, option_map, slice_get, encode_utf8_all, Contains, IfSome}
+use Rattle.std.specs.List.{list_any, slice_split}
 use Rattle.std.specs.Option.{option_or}
 use Rattle.std.specs.Str.{chars}
 use Rattle.aws_world.specs.Env.{value_of}
@@ -32,6 +32,14 @@ folders_named (Some text) = folders_in (encode_utf8_all text)
 abbrev pub folders_of : Held → List (List ℕ)
 folders_of env = folders_named (value_of (codes "AWS_DATA_PATH") env)
 
+abbrev pub has_slash : List ℕ → Bool
+has_slash word = list_any (λ c. c == 47) word
+
+-- a word can name something in a folder: it isn't empty, '.' or '..', and has no '/' (POSIX.1-2017,
+-- section 3.170 and, of the two names that lead elsewhere, 4.13)
+abbrev pub is_plain : List ℕ → Bool
+is_plain word = not (bytes_eq word []) && (not (bytes_eq word (codes ".")) && (not (bytes_eq word (codes "..")) && not (has_slash word)))
+
 -- the path of a name in a folder
 abbrev pub below : List ℕ → List ℕ → List ℕ
 below folder name = folder ++ 47 ∷ name
@@ -61,7 +69,7 @@ IsListed files folder versions name file = Contains versions name × IsModelAt f
 
 -- a version of a service in a folder of models, with its file
 pub record IsVersion (files : Held) (folder service name : List ℕ) (file : ModelFile) : Type 0 where
-  pub service_is : IsChild folder files service
+  pub service_is : IsTrue (is_plain service)
   pub version_is : IsChild (below folder service) files name
   pub file_is : IsModelAt files (below folder service) name file
 
@@ -107,10 +115,9 @@ abbrev pub IsVersionPath : Option Held → List ℕ → List ℕ → Type 0
 IsVersionPath held folder path =
     (version : List ℕ) × IfSome held (λ files. IsChild folder files version) × (path ≡ model_path folder version)
 
--- a path at which a service is looked for in a folder: the folder, the service's folder in it, and
--- the model file of a version in that
+-- a path at which a service is looked for in a folder: the service's folder in it, and the model file
+-- of a version in that
 pub data IsLookedAtIn (folder : List ℕ) (held : Option Held) (service path : List ℕ) : Type 0 where
-  at_folder : path ≡ folder → IsLookedAtIn folder held service path
   at_service : path ≡ below folder service → IsLookedAtIn folder held service path
   at_version : IsVersionPath held (below folder service) path → IsLookedAtIn folder held service path
 

@@ -1,11 +1,10 @@
 //! Where a service's model stands among the files.
 ghost use Rattle.std.specs.Prelude.{◌≡◌, false, IfOk, IfErr, IfSome, AllPairs, IsTrue};
-ghost use Rattle.std.specs.List.{list_any};
-ghost use Rattle.std.specs.Str.{chars, bytes_eq};
+ghost use Rattle.std.specs.Str.{chars};
 ghost use Rattle.aws_world.specs.FileTree.{file_at, IsListing};
 ghost use Rattle.texts.specs.Order.{IsBefore};
 ghost use Rattle.aws_main.specs.Causes.{HasFileCause, FaultsAt};
-ghost use Rattle.aws_main.specs.Folder.{below, model_path, name_of, IsAfter, IsUpTo, IsFileAt, IsListed, IsVersion, IsNewer, IsNewest, IsLookedAt, IsLookedAtIn, IsPathAmong};
+ghost use Rattle.aws_main.specs.Folder.{below, has_slash, is_plain, model_path, name_of, IsAfter, IsUpTo, IsFileAt, IsListed, IsVersion, IsNewer, IsNewest, IsLookedAt, IsLookedAtIn, IsPathAmong};
 
 use crate::causes::Unread;
 use aws_world::{FileEnd, Files};
@@ -69,11 +68,7 @@ fn newer_version<F: Files>(
     ensures path { IfErr result (FaultsAt (IsLookedAtIn folder.now (F.holds files.old) service.now)) }
     ensures cause { HasFileCause (F.faults files.old) (F.faults files.new) result }
 {
-    let services = match list(alloc, files, folder) {
-        Ok(services) => services,
-        Err(refusal) => return Err(refusal),
-    };
-    if !has_name(&services, service) {
+    if !is_plain(service) {
         return Ok(None);
     }
     let path = below(alloc, folder, service.as_str())?;
@@ -84,11 +79,22 @@ fn newer_version<F: Files>(
     newer_listed(alloc, files, &path, versions.as_slice(), newest)
 }
 
-/// Whether the name is in the list.
-fn has_name(names: &List<Text>, name: &Text) -> bool
-    ensures { result ≡ list_any (λ known. bytes_eq known name.now) names.now }
+/// Whether a word can name something in a folder.
+fn is_plain(word: &Text) -> bool
+    ensures { result ≡ is_plain word.now }
 {
-    names.as_slice().contains(name)
+    !word.is("") && !word.is(".") && !word.is("..") && !has_slash(word.as_str())
+}
+
+fn has_slash(word: &str) -> bool
+    ensures { result ≡ has_slash (chars word.now) }
+{
+    for c in word.chars() {
+        if c == '/' {
+            return true;
+        }
+    }
+    false
 }
 
 /// The greatest of the versions in a service's folder that has a model file, where it comes after

@@ -37,10 +37,9 @@ fn faults_of_the_link(rt: HostRuntime) -> Result<(), Fail> {
 #[test]
 fn faults_of_files(rt: HostRuntime) -> Result<(), Fail> {
     let rows = [
-        (1, "\nError reading models\n"),
-        (2, "\nError reading models/shelf\n"),
+        (1, "\nError reading models/shelf\n"),
         (
-            3,
+            2,
             "\nError reading models/shelf/2024-05-01/service-2.json\n",
         ),
     ];
