@@ -1,0 +1,14 @@
+pub mod BlankEnds
+pub mod Blanks
+pub mod FirstLines
+pub mod HeadForms
+pub mod KeyForms
+pub mod LastValues
+pub mod LineForms
+pub mod Numbers
+pub mod Orders
+pub mod Outcomes
+pub mod Remarks
+pub mod SameSettings
+pub mod Signs
+pub mod Trims

@@ -1,0 +1,11 @@
+pub mod FaultText
+pub mod Files
+pub mod Grammar
+pub mod Laws
+pub mod Lines
+pub mod Lookups
+pub mod Places
+pub mod Reading
+pub mod Settings
+pub mod Trimmed
+pub mod Values
