@@ -1,0 +1,12 @@
+pub mod Agreeing
+pub mod Behind
+pub mod Fitted
+pub mod Gathered
+pub mod Joining
+pub mod Judged
+pub mod Literals
+pub mod Loosened
+pub mod Named
+pub mod Outer
+pub mod Steps
+pub mod Tables

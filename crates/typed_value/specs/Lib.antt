@@ -1,0 +1,9 @@
+pub mod Faults
+pub mod Fits
+pub mod Kinds
+pub mod Laws
+pub mod Lines
+pub mod Paths
+pub mod Places
+pub mod Tables
+pub mod Wire
