@@ -11,7 +11,7 @@ pub mod Meanings
 pub mod Negations
 pub mod NumberAnswers
 pub mod NumberTexts
-pub mod References
+pub mod Exprefs
 pub mod SamePairs
 pub mod Segments
 pub mod SetAndGet

@@ -1,4 +1,4 @@
--- Functions of any number of values, none of which is a reference.
+-- Functions of any number of values, none of which is an expref.
 use Rattle.std.proofs.Common.{◌≡◌, Bool, true, false, not, List, [], ◌∷◌, Option, None, Some, Ok, Err, refl, sym, ap}
 use Rattle.std.specs.Prelude.{if◌then◌else◌, is_some}
 use Rattle.std.specs.List.{find}

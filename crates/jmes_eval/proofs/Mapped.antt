@@ -50,7 +50,7 @@ module _ {A B : Type 0} (f : A → B) where
   arguments-same : (g : Function) (args : List (Argument A)) → made_arguments g args ≡ map (argument_with f) args
   arguments-same g [] = refl
   arguments-same g (argument.Value e ∷ args) = ap (λ qs. argument.Value (f e) ∷ qs) (arguments-same g args)
-  arguments-same g (argument.Reference e ∷ args) = ap (λ qs. argument.Reference (f e) ∷ qs) (arguments-same g args)
+  arguments-same g (argument.Expref e ∷ args) = ap (λ qs. argument.Expref (f e) ∷ qs) (arguments-same g args)
 
   pub steps-same : (ss : List (Step A)) → made_steps ss ≡ steps_with f ss
   steps-same [] = refl
@@ -65,7 +65,7 @@ module _ {A B : Type 0} (f : A → B) where
   steps-same (step.Values ∷ ss) = ap (λ ts. step.Values ∷ ts) (steps-same ss)
   steps-same (step.Elements ∷ ss) = ap (λ ts. step.Elements ∷ ts) (steps-same ss)
   steps-same (step.Slice s ∷ ss) = ap (λ ts. step.Slice s ∷ ts) (steps-same ss)
-  steps-same (step.Filter e ∷ ss) = ap (λ ts. step.Filter (f e) ∷ ts) (steps-same ss)
+  steps-same (step.FilterProjection e ∷ ss) = ap (λ ts. step.FilterProjection (f e) ∷ ts) (steps-same ss)
 
   abbrev made_segments : List (List (Step A)) → List (List (Step B))
   made_segments sss = more_in (map-Expr A B f (in_chain [] sss))

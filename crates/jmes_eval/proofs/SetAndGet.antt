@@ -1,5 +1,5 @@
 -- What is set along names is found there, and what stands at other keys stays.
-use Rattle.std.proofs.Common.{◌≡◌, ℕ, Bool, true, false, if◌then◌else◌, List, [], ◌∷◌, ◌++◌, map, Option, None, Some, option_map, Ok, refl, sym, ap, subst, ◌∙◌, rules}
+use Rattle.std.proofs.Common.{◌≡◌, ℕ, true, false, if◌then◌else◌, List, [], ◌∷◌, ◌++◌, map, Option, None, Some, option_map, Ok, refl, sym, ap, ◌∙◌, rules}
 use Rattle.std.specs.List.{AllByRecursion}
 use Rattle.std.specs.Option.{option_flatten}
 use Rattle.std.specs.Str.{bytes_eq}
@@ -14,10 +14,9 @@ use Rattle.jmes_syntax.specs.declared.expr.Operand.{Operand}
 use Rattle.jmes_syntax.specs.declared.expr.Step.{Step}
 use Rattle.jmes_syntax.specs.declared.expr.Step.TheVariants as step
 use Rattle.jmes_syntax.specs.Paths.{IsField, IsPath}
-use Rattle.jmes_eval.specs.Answers.{Answer}
 use Rattle.texts.specs.Calls.{◌>>=◌}
 use Rattle.jmes_eval.specs.Kinds.{fields_of}
-use Rattle.jmes_eval.specs.Meaning.{Meaning, meaning, run, behind, negated, operand_of, field_of}
+use Rattle.jmes_eval.specs.Meaning.{meaning, run, behind, negated, operand_of, field_of}
 use Rattle.jmes_eval.specs.Orders.{doc_or_null}
 use Rattle.jmes_eval.specs.Parts.{steps_with, operand_with}
 use Rattle.jmes_eval.specs.Setting.{names_in, path_of, pairs_in, pairs_of, set_at, value_along}

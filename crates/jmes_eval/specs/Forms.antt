@@ -2,7 +2,7 @@
 use Rattle.jmes_syntax.specs.declared.function.Function.{Function}
 use Rattle.jmes_syntax.specs.declared.function.Function.TheVariants as function
 use Rattle.jmes_eval.specs.declared.signature.Form.{Form}
-use Rattle.jmes_eval.specs.declared.signature.Form.TheVariants.{One, Two, Many, ReferenceFirst, ReferenceLast}
+use Rattle.jmes_eval.specs.declared.signature.Form.TheVariants.{One, Two, Many, ExprefFirst, ExprefLast}
 
 abbrev pub form_of : Function → Form
 form_of function.Contains = Two
@@ -11,8 +11,8 @@ form_of function.Join = Two
 form_of function.StartsWith = Two
 form_of function.Merge = Many
 form_of function.NotNull = Many
-form_of function.Map = ReferenceFirst
-form_of function.MaxBy = ReferenceLast
-form_of function.MinBy = ReferenceLast
-form_of function.SortBy = ReferenceLast
+form_of function.Map = ExprefFirst
+form_of function.MaxBy = ExprefLast
+form_of function.MinBy = ExprefLast
+form_of function.SortBy = ExprefLast
 form_of others = One

@@ -1,4 +1,4 @@
--- Functions of any number of values, from the left. A reference is none.
+-- Functions of any number of values, from the left. An expref is none.
 use Rattle.std.specs.Prelude.{if◌then◌else◌, List, [], ◌∷◌, Option, None, Some, Ok}
 use Rattle.json_doc.specs.declared.doc.Doc as doc
 use Rattle.json_doc.specs.declared.doc.Doc.{Doc}

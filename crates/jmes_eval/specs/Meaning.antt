@@ -30,7 +30,7 @@ use Rattle.jmes_eval.specs.Answers.{Answer, due, all_of}
 use Rattle.texts.specs.Calls.{◌>>=◌}
 use Rattle.jmes_eval.specs.Equality.{same}
 use Rattle.jmes_eval.specs.declared.signature.Form.{Form}
-use Rattle.jmes_eval.specs.declared.signature.Form.TheVariants.{One, Two, Many, ReferenceFirst, ReferenceLast}
+use Rattle.jmes_eval.specs.declared.signature.Form.TheVariants.{One, Two, Many, ExprefFirst, ExprefLast}
 use Rattle.jmes_eval.specs.declared.query_fault.QueryFault.TheVariants.{TypeFault}
 use Rattle.jmes_eval.specs.Forms.{form_of}
 use Rattle.jmes_eval.specs.Kinds.{number_of, items_of, fields_of, is_null, truth_of, type_of}
@@ -70,11 +70,11 @@ hash_of ps d = if is_null d then Ok doc.Null else pairs_at ps d >>= (λ qs. Ok (
 
 -- Functions.
 
--- the values of the arguments; a reference has none
+-- the values of the arguments; an expref has none
 abbrev pub arguments_at : List (Argument Meaning) → Doc → Answer (List (Option Doc))
 arguments_at [] d = Ok []
 arguments_at (argument.Value f ∷ args) d = f d >>= (λ x. arguments_at args d >>= (λ xs. Ok (Some x ∷ xs)))
-arguments_at (argument.Reference f ∷ args) d = arguments_at args d >>= (λ xs. Ok (None ∷ xs))
+arguments_at (argument.Expref f ∷ args) d = arguments_at args d >>= (λ xs. Ok (None ∷ xs))
 
 -- the value at a place among them
 abbrev pub value_in : ℕ → List (Option Doc) → Answer Doc
@@ -82,11 +82,11 @@ value_in n xs = due (option_flatten (slice_get xs n))
 
 abbrev pub referred_in : Argument Meaning → Option Meaning
 referred_in (argument.Value f) = None
-referred_in (argument.Reference f) = Some f
+referred_in (argument.Expref f) = Some f
 
--- the reference at a place among the arguments
-abbrev pub reference_in : ℕ → List (Argument Meaning) → Answer Meaning
-reference_in n args = due (option_flatten (option_map referred_in (slice_get args n)))
+-- the expref at a place among the arguments
+abbrev pub expref_in : ℕ → List (Argument Meaning) → Answer Meaning
+expref_in n args = due (option_flatten (option_map referred_in (slice_get args n)))
 
 -- "map": the values of the elements, nulls too
 abbrev pub mapped : Meaning → List Doc → Answer (List Doc)
@@ -168,20 +168,20 @@ of_many others xs = Err TypeFault
 abbrev pub many_of : Function → List (Option Doc) → Answer Doc
 many_of g xs = due (all_of (λ x. x) xs) >>= of_many g
 
--- of a value and a reference that is applied to its elements
+-- of a value and an expref that is applied to its elements
 abbrev pub of_elements : Function → Doc → Meaning → Answer Doc
 of_elements function.MaxBy x f = max_by_of x f
 of_elements function.MinBy x f = min_by_of x f
 of_elements function.SortBy x f = sort_by_of x f
 of_elements others x f = Err TypeFault
 
--- the function of the values of its arguments and of the reference among them
+-- the function of the values of its arguments and of the expref among them
 abbrev pub apply : Form → Function → List (Argument Meaning) → List (Option Doc) → Answer Doc
 apply One g args xs = value_in 0 xs >>= of_one g
 apply Two g args xs = value_in 0 xs >>= (λ x. value_in 1 xs >>= of_two g x)
 apply Many g args xs = many_of g xs
-apply ReferenceFirst g args xs = reference_in 0 args >>= (λ f. value_in 1 xs >>= map_of f)
-apply ReferenceLast g args xs = value_in 0 xs >>= (λ x. reference_in 1 args >>= of_elements g x)
+apply ExprefFirst g args xs = expref_in 0 args >>= (λ f. value_in 1 xs >>= map_of f)
+apply ExprefLast g args xs = value_in 0 xs >>= (λ x. expref_in 1 args >>= of_elements g x)
 
 -- "Functions Expressions": all arguments have their values before the function is called
 abbrev pub call_of : Function → List (Argument Meaning) → Meaning
@@ -197,6 +197,10 @@ each f (d ∷ ds) = f d >>= (λ x. each f ds >>= (λ xs. Ok (if is_null x then x
 abbrev pub project : Meaning → Option (List Doc) → Answer Doc
 project f None = Ok doc.Null
 project f (Some ds) = each f ds >>= (λ xs. Ok (doc.Items xs))
+
+-- whether a value passes the test
+abbrev pub passes_of : Meaning → Doc → Answer Bool
+passes_of test d = test d >>= (λ t. Ok (truth_of t))
 
 -- an element that doesn't pass the test has no value
 abbrev pub sieved : Meaning → Meaning → Meaning
@@ -215,7 +219,7 @@ step_of (step.Index n) rest d = rest (index_of n d)
 step_of step.Values rest d = project rest (option_map values_in (fields_of d))
 step_of step.Elements rest d = project rest (items_of d)
 step_of (step.Slice s) rest d = project rest (option_map (sliced s) (items_of d))
-step_of (step.Filter test) rest d = project (sieved test rest) (items_of d)
+step_of (step.FilterProjection test) rest d = project (sieved test rest) (items_of d)
 
 abbrev pub run : List (Step Meaning) → Meaning
 run [] d = Ok d
@@ -303,7 +307,7 @@ abbrev pub is_projection : {A : Type 0} → Step A → Bool
 is_projection step.Values = true
 is_projection step.Elements = true
 is_projection (step.Slice s) = true
-is_projection (step.Filter test) = true
+is_projection (step.FilterProjection test) = true
 is_projection others = false
 
 abbrev pub part_of : Step Meaning → Meaning

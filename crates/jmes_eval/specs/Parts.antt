@@ -11,7 +11,7 @@ use Rattle.jmes_syntax.specs.declared.expr.Step.TheVariants as step
 
 abbrev pub argument_with : {A B : Type 0} → (A → B) → Argument A → Argument B
 argument_with f (argument.Value e) = argument.Value (f e)
-argument_with f (argument.Reference e) = argument.Reference (f e)
+argument_with f (argument.Expref e) = argument.Expref (f e)
 
 abbrev pub pair_with : {A B : Type 0} → (A → B) → Pair A → Pair B
 pair_with f p = record { key = p.key; value = f p.value }
@@ -28,7 +28,7 @@ step_with f (step.Index n) = step.Index n
 step_with f step.Values = step.Values
 step_with f step.Elements = step.Elements
 step_with f (step.Slice s) = step.Slice s
-step_with f (step.Filter e) = step.Filter (f e)
+step_with f (step.FilterProjection e) = step.FilterProjection (f e)
 
 abbrev pub steps_with : {A B : Type 0} → (A → B) → List (Step A) → List (Step B)
 steps_with f steps = map (step_with f) steps

@@ -13,6 +13,9 @@ seen_doc (Made doc) = doc
 abbrev pub looked : List (Bor Doc) → List Doc
 looked places = map (λ place. place.now) places
 
--- the values of arguments; a reference has none
+abbrev pub seen_all : List Seen → List Doc
+seen_all all = map seen_doc all
+
+-- the values of arguments; an expref has none
 abbrev pub seen_values : List (Option Seen) → List (Option Doc)
 seen_values values = map (option_map seen_doc) values

@@ -19,7 +19,7 @@ total weigh (x ∷ xs) = weigh x + 6 + total weigh xs
 
 abbrev pub argument_weight : Argument ℕ → ℕ
 argument_weight (argument.Value n) = n
-argument_weight (argument.Reference n) = n
+argument_weight (argument.Expref n) = n
 
 abbrev pub arguments_weight : List (Argument ℕ) → ℕ
 arguments_weight args = total argument_weight args
@@ -29,7 +29,7 @@ step_weight (step.Group n) = n
 step_weight (step.List ns) = total (λ n. n) ns
 step_weight (step.Hash ps) = total (λ p. p.value) ps
 step_weight (step.Call g args) = arguments_weight args + 4
-step_weight (step.Filter n) = n
+step_weight (step.FilterProjection n) = n
 step_weight others = 0
 
 abbrev pub steps_weight : List (Step ℕ) → ℕ

@@ -125,7 +125,7 @@ pub(crate) fn of_many<'a>(
     }
 }
 
-/// Whether no argument is a reference.
+/// Whether no argument is an expref.
 fn are_values(values: &[Option<Seen<'_>>]) -> bool
     ensures { result ≡ is_some (all_of (λ x. x) (seen_values values.now)) }
 {

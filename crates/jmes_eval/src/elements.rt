@@ -1,7 +1,6 @@
-//! The elements that a projection goes over, to look at.
-ghost use Rattle.std.specs.Prelude.{◌≡◌, ◌++◌, IfOk, OnOk};
+//! The elements of lists and the values of objects, to look at.
+ghost use Rattle.std.specs.Prelude.{◌≡◌, IfOk};
 ghost use Rattle.jmes_eval.specs.Lists.{values_in};
-ghost use Rattle.jmes_eval.specs.Meaning.{joined_lists};
 ghost use Rattle.jmes_eval.specs.Seen.{looked};
 
 use json_doc::{Doc, OutOfMemory, Pair};
@@ -30,27 +29,4 @@ pub(crate) fn values<'a>(
         made.push(&field.value)?;
     }
     Ok(made)
-}
-
-/// The elements of a list, of which those that are lists are joined by one level.
-pub(crate) fn joined_lists<'a>(alloc: Global, items: &'a [Doc]) -> Result<Vec<&'a Doc>, OutOfMemory>
-    ensures { IfOk result (λ made. looked made.items ≡ joined_lists items.now) }
-{
-    let mut made = Vec::new(alloc);
-    for item in items {
-        match item {
-            Doc::Items(inner) => push_all(&mut made, inner.as_slice())?,
-            _ => made.push(item)?,
-        }
-    }
-    Ok(made)
-}
-
-fn push_all<'a>(made: &mut Vec<&'a Doc>, items: &'a [Doc]) -> Result<(), OutOfMemory>
-    ensures { OnOk result (looked made.new.items ≡ looked made.old.items ++ items.now) }
-{
-    for item in items {
-        made.push(item)?;
-    }
-    Ok(())
 }

@@ -6,21 +6,20 @@ ghost use Rattle.json_doc.specs.declared.doc.Doc.TheVariants.{Null, Flag};
 ghost use Rattle.jmes_eval.specs.Answers.{Gives, GivesBy};
 ghost use Rattle.jmes_eval.specs.Entries.{entries_of};
 ghost use Rattle.jmes_eval.specs.Kinds.{items_of};
-ghost use Rattle.jmes_eval.specs.Meaning.{arguments_at, both, call_of, chain_of, compare_of, either, hash_of, is_projection, joined_lists, keyed, list_of, map_of, max_by_of, meaning, min_by_of, of_elements, operand_of, part_of, piped, project, reference_in, run, sieved, sort_by_of, step_of};
+ghost use Rattle.jmes_eval.specs.Meaning.{arguments_at, both, call_of, chain_of, compare_of, either, hash_of, is_projection, joined_lists, keyed, list_of, map_of, max_by_of, meaning, min_by_of, of_elements, operand_of, part_of, passes_of, piped, project, expref_in, run, sieved, sort_by_of, step_of};
 ghost use Rattle.jmes_eval.specs.Parts.{argument_with, chain_with, compared_with, operand_with, pair_with, step_with, steps_with};
-ghost use Rattle.jmes_eval.specs.Seen.{looked, seen_doc, seen_values};
+ghost use Rattle.jmes_eval.specs.Seen.{seen_all, seen_doc, seen_values};
 ghost use Rattle.jmes_eval.specs.Weights.{arguments_weight, weight};
 
 use crate::QueryFault;
 use crate::arguments::{first, of_many, of_one, of_two, value};
-use crate::elements::{elements, joined_lists, values};
 use crate::keys::{element_or_null, fits, in_order};
 use crate::kinds::{is_null, is_true, items};
 use crate::operators::{compared, negated};
-use crate::places::{field_at, index_at};
+use crate::places::{field_at, field_of, index_at, index_of};
+use crate::projected::{elements, joined_lists, slice_of, values};
 use crate::seen::Seen;
 use crate::signature::{Form, form_of};
-use crate::slices::sliced;
 use crate::sorting::{Entry, ascend, greatest_entry, least_entry};
 use jmes_syntax::{Argument, Chain, Compared, Expr, Function, Operand, Step};
 use json_doc::{Doc, List, Pair, Pairs};
@@ -32,47 +31,59 @@ use std::alloc::Global;
 pub fn search(alloc: Global, expr: &Expr, doc: &Doc) -> Result<Doc, QueryFault>
     ensures { Gives (meaning expr.now doc.now) result }
 {
-    let seen = look(alloc, expr, doc)?;
+    let seen = look(alloc, expr, Seen::At(doc))?;
     Ok(seen.into_doc(alloc)?)
 }
 
-/// The value of an expression, which may be a place in the document or in the expression.
+/// The value of an expression for what another one gave, of which it takes what it needs. It may be a
+/// place in the document or in the expression.
 #[cycle(query)]
-fn look<'a>(alloc: Global, expr: &'a Expr, doc: &'a Doc) -> Result<Seen<'a>, QueryFault>
-    ensures { GivesBy seen_doc (meaning expr.now doc.now) result }
+fn look<'a>(alloc: Global, expr: &'a Expr, at: Seen<'a>) -> Result<Seen<'a>, QueryFault>
+    ensures { GivesBy seen_doc (meaning expr.now (seen_doc at.entry)) result }
 {
     match expr {
-        Expr::Pipe(parts) => look_through(alloc, parts.as_slice(), doc),
-        Expr::Or(sides) => either(alloc, sides.as_slice(), doc),
-        Expr::And(sides) => both(alloc, sides.as_slice(), doc),
-        Expr::Compare(operand, others) => comparisons(alloc, operand, others.as_slice(), doc),
-        Expr::Operand(operand) => look_at_operand(alloc, operand, doc),
+        Expr::Pipe(parts) => look_through(alloc, parts.as_slice(), at),
+        Expr::Operand(operand) => look_at_operand(alloc, operand, at),
+        _ => look_again(alloc, expr, at),
     }
 }
 
+/// The same for an expression that asks its document more than once.
 #[cycle(query)]
-fn look_through<'a>(alloc: Global, parts: &'a [Expr], doc: &'a Doc) -> Result<Seen<'a>, QueryFault>
-    ensures { GivesBy seen_doc (piped (map meaning parts.now) doc.now) result }
-{
-    let mut at = Seen::At(doc);
-    for part in parts {
-        at = go_on(alloc, part, at)?;
-    }
-    Ok(at)
-}
-
-/// The value of an expression for what another one gave.
-#[cycle(query)]
-fn go_on<'a>(alloc: Global, expr: &'a Expr, at: Seen<'a>) -> Result<Seen<'a>, QueryFault>
+fn look_again<'a>(alloc: Global, expr: &'a Expr, at: Seen<'a>) -> Result<Seen<'a>, QueryFault>
     ensures { GivesBy seen_doc (meaning expr.now (seen_doc at.entry)) result }
 {
     match at {
-        Seen::At(place) => look(alloc, expr, place),
-        Seen::Made(doc) => match look(alloc, expr, &doc) {
+        Seen::At(place) => look_at(alloc, expr, place),
+        Seen::Made(doc) => match look_at(alloc, expr, &doc) {
             Ok(seen) => Ok(Seen::Made(seen.into_doc(alloc)?)),
             Err(fault) => Err(fault),
         },
     }
+}
+
+#[cycle(query)]
+fn look_at<'a>(alloc: Global, expr: &'a Expr, doc: &'a Doc) -> Result<Seen<'a>, QueryFault>
+    ensures { GivesBy seen_doc (meaning expr.now doc.now) result }
+{
+    match expr {
+        Expr::Pipe(parts) => look_through(alloc, parts.as_slice(), Seen::At(doc)),
+        Expr::Or(sides) => either(alloc, sides.as_slice(), doc),
+        Expr::And(sides) => both(alloc, sides.as_slice(), doc),
+        Expr::Compare(operand, others) => comparisons(alloc, operand, others.as_slice(), doc),
+        Expr::Operand(operand) => look_at_operand(alloc, operand, Seen::At(doc)),
+    }
+}
+
+#[cycle(query)]
+fn look_through<'a>(alloc: Global, parts: &'a [Expr], at: Seen<'a>) -> Result<Seen<'a>, QueryFault>
+    ensures { GivesBy seen_doc (piped (map meaning parts.now) (seen_doc at.entry)) result }
+{
+    let mut at = at;
+    for part in parts {
+        at = look(alloc, part, at)?;
+    }
+    Ok(at)
 }
 
 #[cycle(query)]
@@ -84,7 +95,7 @@ fn either<'a>(alloc: Global, sides: &'a [Expr], doc: &'a Doc) -> Result<Seen<'a>
         if is_true(at.doc()) {
             return Ok(at);
         }
-        at = look(alloc, side, doc)?;
+        at = look_at(alloc, side, doc)?;
     }
     Ok(at)
 }
@@ -98,7 +109,7 @@ fn both<'a>(alloc: Global, sides: &'a [Expr], doc: &'a Doc) -> Result<Seen<'a>, 
         if !is_true(at.doc()) {
             return Ok(at);
         }
-        at = look(alloc, side, doc)?;
+        at = look_at(alloc, side, doc)?;
     }
     Ok(at)
 }
@@ -113,9 +124,9 @@ fn comparisons<'a>(
 ) -> Result<Seen<'a>, QueryFault>
     ensures { GivesBy seen_doc (compare_of (operand_with meaning operand.now) (map (compared_with meaning) others.now) doc.now) result }
 {
-    let mut at = look_at_operand(alloc, operand, doc)?;
+    let mut at = look_at_operand(alloc, operand, Seen::At(doc))?;
     for other in others {
-        let right = look_at_operand(alloc, &other.right, doc)?;
+        let right = look_at_operand(alloc, &other.right, Seen::At(doc))?;
         at = Seen::Made(compared(other.comparator, at.doc(), right.doc()));
     }
     Ok(at)
@@ -125,11 +136,11 @@ fn comparisons<'a>(
 fn look_at_operand<'a>(
     alloc: Global,
     operand: &'a Operand<Expr>,
-    doc: &'a Doc,
+    at: Seen<'a>,
 ) -> Result<Seen<'a>, QueryFault>
-    ensures { GivesBy seen_doc (operand_of (operand_with meaning operand.now) doc.now) result }
+    ensures { GivesBy seen_doc (operand_of (operand_with meaning operand.now) (seen_doc at.entry)) result }
 {
-    match look_along(alloc, &operand.chain, doc) {
+    match look_along(alloc, &operand.chain, at) {
         Ok(seen) => Ok(negated(operand.negations, seen)),
         Err(fault) => Err(fault),
     }
@@ -140,11 +151,11 @@ fn look_at_operand<'a>(
 fn look_along<'a>(
     alloc: Global,
     chain: &'a Chain<Expr>,
-    doc: &'a Doc,
+    at: Seen<'a>,
 ) -> Result<Seen<'a>, QueryFault>
-    ensures { GivesBy seen_doc (chain_of (chain_with meaning chain.now) doc.now) result }
+    ensures { GivesBy seen_doc (chain_of (chain_with meaning chain.now) (seen_doc at.entry)) result }
 {
-    let mut at = walk(alloc, chain.first.as_slice(), doc)?;
+    let mut at = walk(alloc, chain.first.as_slice(), at)?;
     for steps in chain.flattened.as_slice() {
         at = flatten(alloc, steps, at)?;
     }
@@ -160,35 +171,23 @@ fn flatten<'a>(
 ) -> Result<Seen<'a>, QueryFault>
     ensures { GivesBy seen_doc (project (run (steps_with meaning steps.now)) (option_map joined_lists (items_of (seen_doc at.entry)))) result }
 {
-    match flattened(alloc, steps, at.doc()) {
+    let places = joined_lists(alloc, at)?;
+    match each_or_null(alloc, steps.as_slice(), places) {
         Ok(doc) => Ok(Seen::Made(doc)),
         Err(fault) => Err(fault),
     }
 }
 
-#[cycle(query)]
-fn flattened(alloc: Global, steps: &List<Step<Expr>>, doc: &Doc) -> Result<Doc, QueryFault>
-    ensures { Gives (project (run (steps_with meaning steps.now)) (option_map joined_lists (items_of doc.now))) result }
-{
-    match doc {
-        Doc::Items(items) => {
-            let places = joined_lists(alloc, items.as_slice())?;
-            each(alloc, steps.as_slice(), places.as_slice())
-        }
-        _ => Ok(Doc::Null),
-    }
-}
-
 /// The value behind steps of which a projection ends them: it applies those behind it to each element.
 #[cycle(query)]
-fn walk<'a>(alloc: Global, steps: &'a [Step<Expr>], doc: &'a Doc) -> Result<Seen<'a>, QueryFault>
-    ensures { GivesBy seen_doc (run (steps_with meaning steps.now) doc.now) result }
+fn walk<'a>(alloc: Global, steps: &'a [Step<Expr>], at: Seen<'a>) -> Result<Seen<'a>, QueryFault>
+    ensures { GivesBy seen_doc (run (steps_with meaning steps.now) (seen_doc at.entry)) result }
 {
-    let mut at = Seen::At(doc);
+    let mut at = at;
     for (i, step) in steps.iter().enumerate() {
         if is_projection(step) {
             let (_, rest) = steps.split_at(i + 1);
-            return match project(alloc, step, rest, at.doc()) {
+            return match project(alloc, step, rest, at) {
                 Ok(doc) => Ok(Seen::Made(doc)),
                 Err(fault) => Err(fault),
             };
@@ -205,43 +204,52 @@ fn is_projection(step: &Step<Expr>) -> bool
         Step::Values => true,
         Step::Elements => true,
         Step::Slice(_) => true,
-        Step::Filter(_) => true,
+        Step::FilterProjection(_) => true,
         _ => false,
     }
 }
 
 /// A projection with the steps behind it.
 #[cycle(query)]
-fn project(
+fn project<'a>(
     alloc: Global,
-    step: &Step<Expr>,
-    rest: &[Step<Expr>],
-    doc: &Doc,
+    step: &'a Step<Expr>,
+    rest: &'a [Step<Expr>],
+    at: Seen<'a>,
 ) -> Result<Doc, QueryFault>
-    ensures { IsTrue (is_projection step.now) → Gives (step_of (step_with meaning step.now) (run (steps_with meaning rest.now)) doc.now) result }
+    ensures { IsTrue (is_projection step.now) → Gives (step_of (step_with meaning step.now) (run (steps_with meaning rest.now)) (seen_doc at.entry)) result }
 {
-    match (step, doc) {
-        (Step::Values, Doc::Fields(fields)) => {
-            let places = values(alloc, fields.as_slice())?;
-            each(alloc, rest, places.as_slice())
-        }
-        (Step::Elements, Doc::Items(items)) => {
-            let places = elements(alloc, items.as_slice())?;
-            each(alloc, rest, places.as_slice())
-        }
-        (Step::Slice(slice), Doc::Items(items)) => {
-            let places = sliced(alloc, *slice, items.as_slice())?;
-            each(alloc, rest, places.as_slice())
-        }
-        (Step::Filter(test), Doc::Items(items)) => filter(alloc, test, rest, items.as_slice()),
+    match step {
+        Step::Values => each_or_null(alloc, rest, values(alloc, at)?),
+        Step::Elements => each_or_null(alloc, rest, elements(alloc, at)?),
+        Step::Slice(slice) => each_or_null(alloc, rest, slice_of(alloc, *slice, at.doc())?),
+        Step::FilterProjection(test) => filter(alloc, test, rest, elements(alloc, at)?),
         _ => Ok(Doc::Null),
     }
 }
 
-/// The list of the values of steps for each element, without nulls.
+/// The list of the values of steps for each element, without nulls; null where there is no list.
 #[cycle(query)]
-fn each(alloc: Global, steps: &[Step<Expr>], places: &[&Doc]) -> Result<Doc, QueryFault>
-    ensures { Gives (project (run (steps_with meaning steps.now)) (Some (looked places.now))) result }
+fn each_or_null<'a>(
+    alloc: Global,
+    steps: &'a [Step<Expr>],
+    places: Option<Vec<Seen<'a>>>,
+) -> Result<Doc, QueryFault>
+    ensures { Gives (project (run (steps_with meaning steps.now)) (option_map (λ all. seen_all all.items) places.entry)) result }
+{
+    match places {
+        Some(places) => each(alloc, steps, places),
+        None => Ok(Doc::Null),
+    }
+}
+
+#[cycle(query)]
+fn each<'a>(
+    alloc: Global,
+    steps: &'a [Step<Expr>],
+    places: Vec<Seen<'a>>,
+) -> Result<Doc, QueryFault>
+    ensures { Gives (project (run (steps_with meaning steps.now)) (Some (seen_all places.entry.items))) result }
 {
     let mut made = List::new(alloc);
     for place in places {
@@ -255,24 +263,48 @@ fn each(alloc: Global, steps: &[Step<Expr>], places: &[&Doc]) -> Result<Doc, Que
 
 /// The same for the elements that pass a test.
 #[cycle(query)]
-fn filter(
+fn filter<'a>(
     alloc: Global,
-    test: &Expr,
-    steps: &[Step<Expr>],
-    items: &[Doc],
+    test: &'a Expr,
+    steps: &'a [Step<Expr>],
+    places: Option<Vec<Seen<'a>>>,
 ) -> Result<Doc, QueryFault>
-    ensures { Gives (project (sieved (meaning test.now) (run (steps_with meaning steps.now))) (Some items.now)) result }
+    ensures { Gives (project (sieved (meaning test.now) (run (steps_with meaning steps.now))) (option_map (λ all. seen_all all.items) places.entry)) result }
+{
+    match places {
+        Some(places) => each_passing(alloc, test, steps, places),
+        None => Ok(Doc::Null),
+    }
+}
+
+#[cycle(query)]
+fn each_passing<'a>(
+    alloc: Global,
+    test: &'a Expr,
+    steps: &'a [Step<Expr>],
+    places: Vec<Seen<'a>>,
+) -> Result<Doc, QueryFault>
+    ensures { Gives (project (sieved (meaning test.now) (run (steps_with meaning steps.now))) (Some (seen_all places.entry.items))) result }
 {
     let mut made = List::new(alloc);
-    for item in items {
-        if is_true(look(alloc, test, item)?.doc()) {
-            let found = walk(alloc, steps, item)?;
+    for place in places {
+        if passes(alloc, test, place.doc())? {
+            let found = walk(alloc, steps, place)?;
             if !is_null(found.doc()) {
                 made.push(found.into_doc(alloc)?)?;
             }
         }
     }
     Ok(Doc::Items(made))
+}
+
+/// Whether a value passes a test.
+#[cycle(query)]
+fn passes(alloc: Global, test: &Expr, doc: &Doc) -> Result<bool, QueryFault>
+    ensures { Gives (passes_of (meaning test.now) doc.now) result }
+{
+    let found = look_at(alloc, test, doc)?;
+    Ok(is_true(found.doc()))
 }
 
 /// A step that is no projection, for what the steps before it gave.
@@ -282,7 +314,21 @@ fn go_a_step<'a>(alloc: Global, step: &'a Step<Expr>, at: Seen<'a>) -> Result<Se
 {
     match at {
         Seen::At(place) => part(alloc, step, place),
-        Seen::Made(doc) => match part(alloc, step, &doc) {
+        Seen::Made(doc) => part_of(alloc, step, doc),
+    }
+}
+
+/// A step that takes what it needs of a document that was made.
+#[cycle(query)]
+fn part_of<'a>(alloc: Global, step: &'a Step<Expr>, doc: Doc) -> Result<Seen<'a>, QueryFault>
+    ensures { GivesBy seen_doc (part_of (step_with meaning step.now) doc) result }
+{
+    match step {
+        Step::Current => Ok(Seen::Made(doc)),
+        Step::Field(name) => Ok(Seen::Made(field_of(name, doc))),
+        Step::Index(n) => Ok(Seen::Made(index_of(*n, doc))),
+        Step::Group(expr) => look(alloc, expr, Seen::Made(doc)),
+        _ => match part(alloc, step, &doc) {
             Ok(seen) => Ok(Seen::Made(seen.into_doc(alloc)?)),
             Err(fault) => Err(fault),
         },
@@ -297,7 +343,7 @@ fn part<'a>(alloc: Global, step: &'a Step<Expr>, doc: &'a Doc) -> Result<Seen<'a
         Step::Current => Ok(Seen::At(doc)),
         Step::Literal(value) => Ok(Seen::At(value)),
         Step::Field(name) => Ok(field_at(name, doc)),
-        Step::Group(expr) => look(alloc, expr, doc),
+        Step::Group(expr) => look_at(alloc, expr, doc),
         Step::List(exprs) => list(alloc, exprs.as_slice(), doc),
         Step::Hash(fields) => hash(alloc, fields.as_slice(), doc),
         Step::Call(function, arguments) => call(alloc, *function, arguments.as_slice(), doc),
@@ -305,7 +351,7 @@ fn part<'a>(alloc: Global, step: &'a Step<Expr>, doc: &'a Doc) -> Result<Seen<'a
         Step::Values => Ok(Seen::Made(Doc::Null)),
         Step::Elements => Ok(Seen::Made(Doc::Null)),
         Step::Slice(_) => Ok(Seen::Made(Doc::Null)),
-        Step::Filter(_) => Ok(Seen::Made(Doc::Null)),
+        Step::FilterProjection(_) => Ok(Seen::Made(Doc::Null)),
     }
 }
 
@@ -319,7 +365,7 @@ fn list<'a>(alloc: Global, exprs: &'a [Expr], doc: &'a Doc) -> Result<Seen<'a>, 
     }
     let mut made = List::new(alloc);
     for expr in exprs {
-        made.push(look(alloc, expr, doc)?.into_doc(alloc)?)?;
+        made.push(look_at(alloc, expr, doc)?.into_doc(alloc)?)?;
     }
     Ok(Seen::Made(Doc::Items(made)))
 }
@@ -334,7 +380,7 @@ fn hash<'a>(alloc: Global, fields: &'a [Pair<Expr>], doc: &'a Doc) -> Result<See
     }
     let mut made = Pairs::new(alloc);
     for field in fields {
-        let value = look(alloc, &field.value, doc)?.into_doc(alloc)?;
+        let value = look_at(alloc, &field.value, doc)?.into_doc(alloc)?;
         made.put(field.key.copy(alloc)?, value)?;
     }
     Ok(Seen::Made(Doc::Fields(made)))
@@ -359,18 +405,18 @@ fn call<'a>(
             of_two(alloc, function, left, right)
         }
         Form::Many => of_many(alloc, function, values),
-        Form::ReferenceFirst => {
-            let expr = reference(arguments, 0)?;
+        Form::ExprefFirst => {
+            let expr = expref(arguments, 0)?;
             mapped(alloc, expr, value(values.as_slice(), 1)?)
         }
-        Form::ReferenceLast => {
+        Form::ExprefLast => {
             let elements = value(values.as_slice(), 0)?;
-            by_keys(alloc, function, elements, reference(arguments, 1)?)
+            by_keys(alloc, function, elements, expref(arguments, 1)?)
         }
     }
 }
 
-/// The values of arguments; a reference has none.
+/// The values of arguments; an expref has none.
 #[cycle(query)]
 fn arguments_at<'a>(
     alloc: Global,
@@ -382,20 +428,20 @@ fn arguments_at<'a>(
     let mut values = Vec::new(alloc);
     for argument in arguments {
         match argument {
-            Argument::Value(expr) => values.push(Some(look(alloc, expr, doc)?))?,
-            Argument::Reference(_) => values.push(None)?,
+            Argument::Value(expr) => values.push(Some(look_at(alloc, expr, doc)?))?,
+            Argument::Expref(_) => values.push(None)?,
         }
     }
     Ok(values)
 }
 
-/// The reference at a place among the arguments.
-fn reference(arguments: &[Argument<Expr>], at: usize) -> Result<&Expr, QueryFault>
-    ensures value { GivesBy (λ expr. meaning expr.now) (reference_in at (map (argument_with meaning) arguments.now)) result }
+/// The expref at a place among the arguments.
+fn expref(arguments: &[Argument<Expr>], at: usize) -> Result<&Expr, QueryFault>
+    ensures value { GivesBy (λ expr. meaning expr.now) (expref_in at (map (argument_with meaning) arguments.now)) result }
     ensures within { IfOk result (λ expr. weight expr.now < arguments_weight (map (argument_with weight) arguments.now)) }
 {
     match arguments.get(at) {
-        Some(Argument::Reference(expr)) => Ok(expr),
+        Some(Argument::Expref(expr)) => Ok(expr),
         Some(Argument::Value(_)) => Err(QueryFault::TypeFault),
         None => Err(QueryFault::TypeFault),
     }
@@ -409,7 +455,7 @@ fn mapped<'a>(alloc: Global, expr: &Expr, doc: &Doc) -> Result<Seen<'a>, QueryFa
     let items = items(doc)?;
     let mut made = List::new(alloc);
     for item in items {
-        made.push(look(alloc, expr, item)?.into_doc(alloc)?)?;
+        made.push(look_at(alloc, expr, item)?.into_doc(alloc)?)?;
     }
     Ok(Seen::Made(Doc::Items(made)))
 }
@@ -466,7 +512,7 @@ fn keyed<'a>(alloc: Global, expr: &'a Expr, items: &'a [Doc]) -> Result<Vec<Entr
 {
     let mut entries = Vec::new(alloc);
     for item in items {
-        let key = look(alloc, expr, item)?;
+        let key = look_at(alloc, expr, item)?;
         if !fits(entries.as_slice(), &key) {
             return Err(QueryFault::TypeFault);
         }

@@ -14,6 +14,7 @@ mod numbers;
 mod operators;
 mod orders;
 mod places;
+mod projected;
 mod query_fault;
 mod seen;
 mod setting;

@@ -12,10 +12,10 @@ pub(crate) enum Form {
     Two,
     /// Any number of values.
     Many,
-    /// A reference, and a value whose elements it is applied to.
-    ReferenceFirst,
-    /// A value, and a reference that is applied to its elements.
-    ReferenceLast,
+    /// An expref, and a value whose elements it is applied to.
+    ExprefFirst,
+    /// A value, and an expref that is applied to its elements.
+    ExprefLast,
 }
 
 pub(crate) fn form_of(function: Function) -> Form
@@ -30,16 +30,16 @@ pub(crate) fn form_of(function: Function) -> Form
         Function::Join => Form::Two,
         Function::Keys => Form::One,
         Function::Length => Form::One,
-        Function::Map => Form::ReferenceFirst,
+        Function::Map => Form::ExprefFirst,
         Function::Max => Form::One,
-        Function::MaxBy => Form::ReferenceLast,
+        Function::MaxBy => Form::ExprefLast,
         Function::Merge => Form::Many,
         Function::Min => Form::One,
-        Function::MinBy => Form::ReferenceLast,
+        Function::MinBy => Form::ExprefLast,
         Function::NotNull => Form::Many,
         Function::Reverse => Form::One,
         Function::Sort => Form::One,
-        Function::SortBy => Form::ReferenceLast,
+        Function::SortBy => Form::ExprefLast,
         Function::StartsWith => Form::Two,
         Function::Sum => Form::One,
         Function::ToArray => Form::One,

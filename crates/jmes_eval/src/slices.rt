@@ -1,9 +1,11 @@
 //! Elements of a list by their places.
-ghost use Rattle.std.specs.Prelude.{◌≡◌, reverse, IfOk};
+ghost use Rattle.std.specs.Prelude.{◌≡◌, ◌<◌, List, length, reverse, slice_get, option_and_then, IfOk, IfSome};
 ghost use Rattle.std.specs.Option.{option_copied, option_map_or};
-ghost use Rattle.jmes_eval.specs.Seen.{looked};
+ghost use Rattle.json_doc.specs.declared.doc.Doc.{Doc};
+ghost use Rattle.jmes_eval.specs.Seen.{seen_all};
 ghost use Rattle.jmes_eval.specs.Slices.{between, element_at, every, place_of, places_to, sliced};
 
+use crate::seen::Seen;
 use jmes_syntax::{Slice, Whole};
 use json_doc::{Doc, OutOfMemory};
 use std::alloc::Global;
@@ -12,14 +14,24 @@ use std::alloc::Global;
 pub(crate) fn element_at(n: Whole, items: &[Doc]) -> Option<&Doc>
     ensures { option_copied result ≡ element_at n items.now }
 {
-    let size = n.magnitude as usize;
-    if n.is_negative {
-        if size <= items.len() {
-            return items.get(items.len() - size);
-        }
-        return None;
+    match place_in(n, items.len()) {
+        Some(at) => items.get(at),
+        None => None,
     }
-    items.get(size)
+}
+
+/// The place that is meant in a list of this length, where it has one.
+pub(crate) fn place_in(n: Whole, len: usize) -> Option<usize>
+    ensures within { IfSome result (λ at. at < len) }
+    ensures element { (items : List Doc) → length items ≡ len → option_and_then (slice_get items) result ≡ element_at n items }
+{
+    let size = n.magnitude as usize;
+    let at = if n.is_negative {
+        len.checked_sub(size)?
+    } else {
+        size
+    };
+    if at < len { Some(at) } else { None }
 }
 
 /// The elements of a slice, to look at.
@@ -27,8 +39,8 @@ pub(crate) fn sliced<'a>(
     alloc: Global,
     slice: Slice,
     items: &'a [Doc],
-) -> Result<Vec<&'a Doc>, OutOfMemory>
-    ensures { IfOk result (λ made. looked made.items ≡ sliced slice items.now) }
+) -> Result<Vec<Seen<'a>>, OutOfMemory>
+    ensures { IfOk result (λ made. seen_all made.items ≡ sliced slice items.now) }
 {
     let step = slice.step.magnitude as usize;
     let len = items.len();
@@ -82,8 +94,8 @@ fn between(items: &[Doc], from: usize, to: usize) -> &[Doc]
 }
 
 /// The first element and each one so many further.
-fn forwards<'a>(alloc: Global, items: &'a [Doc], step: usize) -> Result<Vec<&'a Doc>, OutOfMemory>
-    ensures { IfOk result (λ made. looked made.items ≡ every step 0 items.now) }
+fn forwards<'a>(alloc: Global, items: &'a [Doc], step: usize) -> Result<Vec<Seen<'a>>, OutOfMemory>
+    ensures { IfOk result (λ made. seen_all made.items ≡ every step 0 items.now) }
 {
     let skipped = step.saturating_sub(1);
     let mut made = Vec::new(alloc);
@@ -92,15 +104,15 @@ fn forwards<'a>(alloc: Global, items: &'a [Doc], step: usize) -> Result<Vec<&'a 
         let Some((first, others)) = rest.split_first() else {
             return Ok(made);
         };
-        made.push(first)?;
+        made.push(Seen::At(first))?;
         let (_, more) = others.split_at(skipped.min(others.len()));
         rest = more;
     }
 }
 
 /// The last element and each one so many before.
-fn backwards<'a>(alloc: Global, items: &'a [Doc], step: usize) -> Result<Vec<&'a Doc>, OutOfMemory>
-    ensures { IfOk result (λ made. looked made.items ≡ every step 0 (reverse items.now)) }
+fn backwards<'a>(alloc: Global, items: &'a [Doc], step: usize) -> Result<Vec<Seen<'a>>, OutOfMemory>
+    ensures { IfOk result (λ made. seen_all made.items ≡ every step 0 (reverse items.now)) }
 {
     let skipped = step.saturating_sub(1);
     let mut made = Vec::new(alloc);
@@ -109,7 +121,7 @@ fn backwards<'a>(alloc: Global, items: &'a [Doc], step: usize) -> Result<Vec<&'a
         let Some((last, others)) = rest.split_last() else {
             return Ok(made);
         };
-        made.push(last)?;
+        made.push(Seen::At(last))?;
         let (more, _) = others.split_at(others.len().saturating_sub(skipped));
         rest = more;
     }

@@ -424,8 +424,8 @@ mutual
       (MoreArguments.more_arguments v refl refl (more_args_complete more rest closes ends (acc ++ a ∷ []) b us (arg_complete next (args_end more ends))))
 
   arg_complete : {n : ℕ} {ts : List Token} {a : Argument Expr} {rest : List Token} → g.FunctionArg n ts a rest → EndsAt 1 rest → ArgumentAt n ts (Ok (a, rest))
-  arg_complete (g.FunctionArg.value {ts = ts} e) ends = ArgumentAt.value (begins-behind mark.Reference ts refl (expression_begins e)) (expression_complete e ends)
-  arg_complete (g.FunctionArg.expression_type e) ends = ArgumentAt.reference refl (expression_complete e ends)
+  arg_complete (g.FunctionArg.value {ts = ts} e) ends = ArgumentAt.value (begins-behind mark.Expref ts refl (expression_begins e)) (expression_complete e ends)
+  arg_complete (g.FunctionArg.expression_type e) ends = ArgumentAt.expref refl (expression_complete e ends)
 
 pub tokens_complete : (ts : List Token) (e : Expr) → g.ExpressionAt level.Pipe 0 ts e [] → Joined level.Pipe 0 ts (Ok (e, []))
 tokens_complete ts e h = expression_complete h (omega arith)

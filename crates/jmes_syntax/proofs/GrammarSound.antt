@@ -338,8 +338,8 @@ mutual
       linking-is link.Step (index_in n us) (λ x. OpensWith mark.OpenBracket n us (link.Step x.0, x.1)) (λ x. g.LinkAt n ts x.0 x.1)
       (λ x h. subst (λ vs. g.LinkAt n vs (link.Step x.0) x.1) (sym (behind-is mark.OpenBracket ts us e)) (g.LinkAt.index_expression h)) (index_in-is n us)
   link_sound (LinkAt.filter {n = n} {ts = ts} {us = us} {o = o} e f) =
-      linking-is (λ e. link.Step (step.Filter e)) o (EnclosedIs mark.CloseBracket n us) (λ x. g.LinkAt n ts x.0 x.1)
-      (λ x h. subst (λ vs. g.LinkAt n vs (link.Step (step.Filter x.0)) x.1) (sym (behind-is mark.OpenFilter ts us e)) (g.LinkAt.index_expression (g.BracketSpecifier.filter h.0 h.1))) (enclosed_sound f)
+      linking-is (λ e. link.Step (step.FilterProjection e)) o (EnclosedIs mark.CloseBracket n us) (λ x. g.LinkAt n ts x.0 x.1)
+      (λ x h. subst (λ vs. g.LinkAt n vs (link.Step (step.FilterProjection x.0)) x.1) (sym (behind-is mark.OpenFilter ts us e)) (g.LinkAt.index_expression (g.BracketSpecifier.filter h.0 h.1))) (enclosed_sound f)
   link_sound (LinkAt.flatten {n = n} {ts = ts} {us = us} e) =
       linking-is (λ k. k) (flatten_in n us) (OpensWith mark.Flatten n us) (λ x. g.LinkAt n ts x.0 x.1)
       (λ x h. subst (λ vs. g.LinkAt n vs x.0 x.1) (sym (behind-is mark.Flatten ts us e)) (g.LinkAt.index_expression h)) (flatten_in-is n us)
@@ -355,8 +355,8 @@ mutual
       made-is (λ e. link.Step (step.Group e)) o (EnclosedIs mark.CloseGroup n us) (λ x. g.First n ts x.0 x.1)
       (λ x h. subst (λ vs. g.First n vs (link.Step (step.Group x.0)) x.1) (sym (behind-is mark.OpenGroup ts us e)) (g.First.paren_expression h.0 h.1)) (enclosed_sound f)
   first_sound (First.first_filter {n = n} {ts = ts} {us = us} {o = o} e f) =
-      made-is (λ e. link.Step (step.Filter e)) o (EnclosedIs mark.CloseBracket n us) (λ x. g.First n ts x.0 x.1)
-      (λ x h. subst (λ vs. g.First n vs (link.Step (step.Filter x.0)) x.1) (sym (behind-is mark.OpenFilter ts us e)) (g.First.bracket_specifier (g.BracketSpecifier.filter h.0 h.1))) (enclosed_sound f)
+      made-is (λ e. link.Step (step.FilterProjection e)) o (EnclosedIs mark.CloseBracket n us) (λ x. g.First n ts x.0 x.1)
+      (λ x h. subst (λ vs. g.First n vs (link.Step (step.FilterProjection x.0)) x.1) (sym (behind-is mark.OpenFilter ts us e)) (g.First.bracket_specifier (g.BracketSpecifier.filter h.0 h.1))) (enclosed_sound f)
   first_sound (First.first_index {n = n} {ts = ts} {us = us} e) =
       made-is link.Step (index_in n us) (λ x. OpensWith mark.OpenBracket n us (link.Step x.0, x.1)) (λ x. g.First n ts x.0 x.1)
       (λ x h. subst (λ vs. g.First n vs (link.Step x.0) x.1) (sym (behind-is mark.OpenBracket ts us (behind_index-bracket ts us e))) (g.First.bracket_specifier h)) (index_in-is n us)
@@ -432,9 +432,9 @@ mutual
   more_arguments_sound (MoreArguments.open_call a f h) = tt
 
   argument_sound : {n : ℕ} {ts : List Token} {o : Read (Argument Expr)} → ArgumentAt n ts o → IfOk o (λ x. g.FunctionArg n ts x.0 x.1)
-  argument_sound (ArgumentAt.reference {n = n} {ts = ts} {us = us} {o = o} e f) =
-      made-is argument.Reference o (λ x. g.ExpressionAt level.Pipe n us x.0 x.1) (λ x. g.FunctionArg n ts x.0 x.1)
-      (λ x h. subst (λ vs. g.FunctionArg n vs (argument.Reference x.0) x.1) (sym (behind-is mark.Reference ts us e)) (g.FunctionArg.expression_type h)) (joined_sound f)
+  argument_sound (ArgumentAt.expref {n = n} {ts = ts} {us = us} {o = o} e f) =
+      made-is argument.Expref o (λ x. g.ExpressionAt level.Pipe n us x.0 x.1) (λ x. g.FunctionArg n ts x.0 x.1)
+      (λ x h. subst (λ vs. g.FunctionArg n vs (argument.Expref x.0) x.1) (sym (behind-is mark.Expref ts us e)) (g.FunctionArg.expression_type h)) (joined_sound f)
   argument_sound (ArgumentAt.value {n = n} {ts = ts} {o = o} e f) =
       made-is argument.Value o (λ x. g.ExpressionAt level.Pipe n ts x.0 x.1) (λ x. g.FunctionArg n ts x.0 x.1) (λ x h. g.FunctionArg.value h) (joined_sound f)
 

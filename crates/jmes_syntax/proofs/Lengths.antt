@@ -359,5 +359,5 @@ mutual
   more_arguments-within (MoreArguments.open_call {us = us} {s = s} a f g) = omega (arith, argument-within a, past-stop mark.Comma us s g)
 
   pub argument-within : {n : ℕ} {ts : List Token} {o : Read (Argument Expr)} → ArgumentAt n ts o → Within ts o
-  argument-within (ArgumentAt.reference {ts = ts} {us = us} {o = o} e f) = made-leaves _ (length ts) (length ts) o (marked ts us o (behind-lt mark.Reference ts us e) (narrow us o (joined-within f)))
+  argument-within (ArgumentAt.expref {ts = ts} {us = us} {o = o} e f) = made-leaves _ (length ts) (length ts) o (marked ts us o (behind-lt mark.Expref ts us e) (narrow us o (joined-within f)))
   argument-within (ArgumentAt.value {ts = ts} {o = o} e f) = made-leaves _ (length ts) (length ts) o (joined-within f)

@@ -99,7 +99,7 @@ LinkStep n ts o = MatchOption (behind mark.Dot ts)
     (MatchOption (behind mark.OpenBracket ts)
     (MatchOption (behind mark.OpenFilter ts)
     (MatchOption (behind mark.Flatten ts) (o ≡ Ok None) (λ us. o ≡ linking (λ k. k) (flatten_in n us)))
-    (λ us. (q : Read Expr) × Enclosed mark.CloseBracket n us q × (o ≡ linking (λ e. link.Step (step.Filter e)) q)))
+    (λ us. (q : Read Expr) × Enclosed mark.CloseBracket n us q × (o ≡ linking (λ e. link.Step (step.FilterProjection e)) q)))
     (λ us. o ≡ linking link.Step (index_in n us)))
     (λ us. (q : Read (Step Expr)) × Part n us q × (o ≡ linking link.Step q))
 
@@ -120,7 +120,7 @@ FirstStep n ts o = MatchOption (behind mark.OpenGroup ts)
     (λ us. o ≡ Ok (link.Step step.Current, us)))
     (λ us. o ≡ flatten_in n us))
     (λ us. o ≡ made link.Step (index_in n us)))
-    (λ us. (q : Read Expr) × Enclosed mark.CloseBracket n us q × (o ≡ made (λ e. link.Step (step.Filter e)) q)))
+    (λ us. (q : Read Expr) × Enclosed mark.CloseBracket n us q × (o ≡ made (λ e. link.Step (step.FilterProjection e)) q)))
     (λ us. (q : Read Expr) × Enclosed mark.CloseGroup n us q × (o ≡ made (λ e. link.Step (step.Group e)) q))
 
 first_step : {n : ℕ} {ts : List Token} {o : Read Link} → First n ts o → FirstStep n ts o
@@ -244,12 +244,12 @@ more_arguments_step (MoreArguments.more_arguments {us = us} {a = d} a f g args) 
 more_arguments_step (MoreArguments.open_call {us = us} {a = d} a f g) = (Ok (d, us), a, rw (f, g) refl)
 
 abbrev ArgumentStep : ℕ → List Token → Read (Argument Expr) → Type 0
-ArgumentStep n ts o = MatchOption (behind mark.Reference ts)
+ArgumentStep n ts o = MatchOption (behind mark.Expref ts)
     ((q : Read Expr) × Joined level.Pipe n ts q × (o ≡ made argument.Value q))
-    (λ us. (q : Read Expr) × Joined level.Pipe n us q × (o ≡ made argument.Reference q))
+    (λ us. (q : Read Expr) × Joined level.Pipe n us q × (o ≡ made argument.Expref q))
 
 argument_step : {n : ℕ} {ts : List Token} {o : Read (Argument Expr)} → ArgumentAt n ts o → ArgumentStep n ts o
-argument_step (ArgumentAt.reference {o = q} e f) = rw e (q, f, refl)
+argument_step (ArgumentAt.expref {o = q} e f) = rw e (q, f, refl)
 argument_step (ArgumentAt.value {o = q} e f) = rw e (q, f, refl)
 
 mutual
@@ -301,7 +301,7 @@ mutual
   link_again (LinkAt.index {ts = ts} {us = us} e) p v = rw (other-behind mark.OpenBracket mark.Dot ts us refl e, e) at (link_step v)
   link_again (LinkAt.filter {ts = ts} {us = us} e f) p v =
       let s = rw (other-behind mark.OpenFilter mark.Dot ts us refl e, other-behind mark.OpenFilter mark.OpenBracket ts us refl e, e) at (link_step v) in
-      s.2 ∙ ap (linking (λ e. link.Step (step.Filter e))) (enclosed_again f s.0 s.1)
+      s.2 ∙ ap (linking (λ e. link.Step (step.FilterProjection e))) (enclosed_again f s.0 s.1)
   link_again (LinkAt.flatten {ts = ts} {us = us} e) p v =
       rw (other-behind mark.Flatten mark.Dot ts us refl e, other-behind mark.Flatten mark.OpenBracket ts us refl e, other-behind mark.Flatten mark.OpenFilter ts us refl e, e) at (link_step v)
   link_again (LinkAt.chain_ends a b c d) p v = rw (a, b, c, d) at (link_step v)
@@ -310,7 +310,7 @@ mutual
   first_again (First.group e f) p v = let s = rw e at (first_step v) in s.2 ∙ ap (made (λ e. link.Step (step.Group e))) (enclosed_again f s.0 s.1)
   first_again (First.first_filter {ts = ts} {us = us} e f) p v =
       let s = rw (other-behind mark.OpenFilter mark.OpenGroup ts us refl e, e) at (first_step v) in
-      s.2 ∙ ap (made (λ e. link.Step (step.Filter e))) (enclosed_again f s.0 s.1)
+      s.2 ∙ ap (made (λ e. link.Step (step.FilterProjection e))) (enclosed_again f s.0 s.1)
   first_again (First.first_index {ts = ts} {us = us} e) p v = rw (index-other mark.OpenGroup ts us refl e, index-other mark.OpenFilter ts us refl e, e) at (first_step v)
   first_again (First.first_flatten {ts = ts} {us = us} e) p v =
       rw (other-behind mark.Flatten mark.OpenGroup ts us refl e, other-behind mark.Flatten mark.OpenFilter ts us refl e, other-index mark.Flatten ts us refl e, e) at (first_step v)
@@ -383,5 +383,5 @@ mutual
   more_arguments_again (MoreArguments.open_call {n = n} {args = args} a f g) p v = let s = more_arguments_step v in rw (f, g) at (subst (λ r. ArgumentEnd n args r p) (argument_again a s.0 s.1) s.2)
 
   argument_again : {n : ℕ} {ts : List Token} {o : Read (Argument Expr)} → ArgumentAt n ts o → (p : Read (Argument Expr)) → ArgumentAt n ts p → p ≡ o
-  argument_again (ArgumentAt.reference e f) p v = let s = rw e at (argument_step v) in s.2 ∙ ap (made argument.Reference) (joined_again f s.0 s.1)
+  argument_again (ArgumentAt.expref e f) p v = let s = rw e at (argument_step v) in s.2 ∙ ap (made argument.Expref) (joined_again f s.0 s.1)
   argument_again (ArgumentAt.value e f) p v = let s = rw e at (argument_step v) in s.2 ∙ ap (made argument.Value) (joined_again f s.0 s.1)

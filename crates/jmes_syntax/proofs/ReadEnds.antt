@@ -200,7 +200,7 @@ first_ends k n ts below le = of_option (behind mark.OpenGroup ts)
     (λ us d. ended (flatten_in n us) (First.first_flatten d) (flatten_in-real n us)))
     (λ us c. ended (made link.Step (index_in n us)) (First.first_index c) (made-real link.Step (index_in n us) (index_in-real n us))))
     (λ us b. let r = enclosed_ends mark.CloseBracket n us (below us (omega (arith, behind-lt mark.OpenFilter ts us b))) in
-    ended (made (λ e. link.Step (step.Filter e)) r.outcome) (First.first_filter b r.is) (made-real (λ e. link.Step (step.Filter e)) r.outcome r.real)))
+    ended (made (λ e. link.Step (step.FilterProjection e)) r.outcome) (First.first_filter b r.is) (made-real (λ e. link.Step (step.FilterProjection e)) r.outcome r.real)))
     (λ us a. let r = enclosed_ends mark.CloseGroup n us (below us (omega (arith, behind-lt mark.OpenGroup ts us a))) in
     ended (made (λ e. link.Step (step.Group e)) r.outcome) (First.group a r.is) (made-real (λ e. link.Step (step.Group e)) r.outcome r.real))
 
@@ -212,7 +212,7 @@ link_ends k n ts below le = of_option (behind mark.Dot ts)
     (λ d. ended (Ok None) (LinkAt.chain_ends a b c d) tt)
     (λ us d. ended (linking (λ k. k) (flatten_in n us)) (LinkAt.flatten d) (linking-real (λ k. k) (flatten_in n us) (flatten_in-real n us))))
     (λ us c. let r = enclosed_ends mark.CloseBracket n us (below us (omega (arith, behind-lt mark.OpenFilter ts us c))) in
-    ended (linking (λ e. link.Step (step.Filter e)) r.outcome) (LinkAt.filter c r.is) (linking-real (λ e. link.Step (step.Filter e)) r.outcome r.real)))
+    ended (linking (λ e. link.Step (step.FilterProjection e)) r.outcome) (LinkAt.filter c r.is) (linking-real (λ e. link.Step (step.FilterProjection e)) r.outcome r.real)))
     (λ us b. ended (linking link.Step (index_in n us)) (LinkAt.index b) (linking-real link.Step (index_in n us) (index_in-real n us))))
     (λ us a. let r = part_ends k n us below (omega (arith, behind-lt mark.Dot ts us a)) in ended (linking link.Step r.outcome) (LinkAt.dot a r.is) (linking-real link.Step r.outcome r.real))
 
@@ -312,9 +312,9 @@ more_members_end k n ps ts below le = of_result (key_at ts)
     (λ s g. ended (Err s) (MoreMembers.bad_key g) (err-real (key_at ts) s (key_at-real ts) g))
 
 argument_ends : (k n : ℕ) (ts : List Token) → Below k → length ts ≤ k → Ends (ArgumentAt n ts)
-argument_ends k n ts below le = of_option (behind mark.Reference ts)
+argument_ends k n ts below le = of_option (behind mark.Expref ts)
     (λ e. let r = joined_ends k n ts below le in ended (made argument.Value r.outcome) (ArgumentAt.value e r.is) (made-real argument.Value r.outcome r.real))
-    (λ us e. let r = joined_ends k n us below (omega (arith, behind-lt mark.Reference ts us e)) in ended (made argument.Reference r.outcome) (ArgumentAt.reference e r.is) (made-real argument.Reference r.outcome r.real))
+    (λ us e. let r = joined_ends k n us below (omega (arith, behind-lt mark.Expref ts us e)) in ended (made argument.Expref r.outcome) (ArgumentAt.expref e r.is) (made-real argument.Expref r.outcome r.real))
 
 arguments_from : (k n : ℕ) (args : List (Argument Expr)) (ts : List Token) → Below k → length ts ≤ k → (o : Read (Argument Expr)) → ArgumentAt n ts o → Real o → Ends (MoreArguments n args ts)
 arguments_from k n args ts below le (Err s) a real = ended (Err s) (MoreArguments.bad_argument a) real

@@ -4,7 +4,7 @@ use Rattle.jmes_syntax.specs.declared.function.TheConstants.{FUNCTIONS}
 use Rattle.jmes_syntax.specs.declared.function.Arity.{Arity}
 use Rattle.jmes_syntax.specs.declared.function.Arity.TheVariants.{Exactly, AtLeast}
 use Rattle.jmes_syntax.specs.declared.function.Parameter.{Parameter}
-use Rattle.jmes_syntax.specs.declared.function.Parameter.TheVariants.{Value, Reference}
+use Rattle.jmes_syntax.specs.declared.function.Parameter.TheVariants.{Value, Expref}
 use Rattle.jmes_syntax.specs.declared.function.Function.{Function}
 use Rattle.jmes_syntax.specs.declared.function.Function.TheVariants as function
 
@@ -49,12 +49,12 @@ arity_of function.Merge = AtLeast 1
 arity_of function.NotNull = AtLeast 1
 arity_of others = Exactly 1
 
--- the expression that `max_by`, `min_by`, `sort_by` and `map` apply to each element is a reference
+-- the expression that `max_by`, `min_by`, `sort_by` and `map` apply to each element is an expref
 abbrev pub parameter_of : Function → ℕ → Parameter
-parameter_of function.Map at = if at == 0 then Reference else Value
-parameter_of function.MaxBy at = if at == 1 then Reference else Value
-parameter_of function.MinBy at = if at == 1 then Reference else Value
-parameter_of function.SortBy at = if at == 1 then Reference else Value
+parameter_of function.Map at = if at == 0 then Expref else Value
+parameter_of function.MaxBy at = if at == 1 then Expref else Value
+parameter_of function.MinBy at = if at == 1 then Expref else Value
+parameter_of function.SortBy at = if at == 1 then Expref else Value
 parameter_of others at = Value
 
 -- the first of these with this name

@@ -20,7 +20,7 @@ use Rattle.jmes_syntax.specs.declared.expr.Step.TheVariants as step
 use Rattle.jmes_syntax.specs.declared.function.Function.{Function}
 use Rattle.jmes_syntax.specs.declared.reader.Level.{Level}
 use Rattle.jmes_syntax.specs.declared.reader.Level.TheVariants as level
-use Rattle.jmes_syntax.specs.declared.token.Mark.TheVariants.{Dot, Comma, Colon, Star, Current, Reference, Not, OpenGroup, CloseGroup, OpenBracket, CloseBracket, OpenBrace, CloseBrace, Flatten, OpenFilter}
+use Rattle.jmes_syntax.specs.declared.token.Mark.TheVariants.{Dot, Comma, Colon, Star, Current, Expref, Not, OpenGroup, CloseGroup, OpenBracket, CloseBracket, OpenBrace, CloseBrace, Flatten, OpenFilter}
 use Rattle.jmes_syntax.specs.declared.token.Mark.{Mark as AnyMark}
 use Rattle.jmes_syntax.specs.declared.token.Token.{Token}
 use Rattle.jmes_syntax.specs.declared.token.Token.TheVariants.{Mark, Name, Quoted, Number, Literal}
@@ -107,7 +107,7 @@ mutual
     elements : {n : ℕ} {rest : List Token} → n < 100 → BracketSpecifier n (Mark OpenBracket ∷ Mark Star ∷ Mark CloseBracket ∷ rest) (link.Step step.Elements) rest
     slice_expression : {n : ℕ} {ts rest : List Token} {s : Step Expr} → n < 100 → SliceExpression ts s → BracketSpecifier n (Mark OpenBracket ∷ (ts ++ Mark CloseBracket ∷ rest)) (link.Step s) rest
     flatten : {n : ℕ} {rest : List Token} → n < 100 → BracketSpecifier n (Mark Flatten ∷ rest) link.Flatten rest
-    filter : {n : ℕ} {us rest : List Token} {e : Expr} → n < 100 → ExpressionAt level.Pipe (n + 1) us e (Mark CloseBracket ∷ rest) → BracketSpecifier n (Mark OpenFilter ∷ us) (link.Step (step.Filter e)) rest
+    filter : {n : ℕ} {us rest : List Token} {e : Expr} → n < 100 → ExpressionAt level.Pipe (n + 1) us e (Mark CloseBracket ∷ rest) → BracketSpecifier n (Mark OpenFilter ∷ us) (link.Step (step.FilterProjection e)) rest
 
   -- what a chain may begin with
   pub data First : ℕ → List Token → Link → List Token → Type 0 where
@@ -166,7 +166,7 @@ mutual
   pub data FunctionArg : ℕ → List Token → Argument Expr → List Token → Type 0 where
     value : {n : ℕ} {ts rest : List Token} {e : Expr} → ExpressionAt level.Pipe n ts e rest → FunctionArg n ts (argument.Value e) rest
     -- expression-type = "&" expression
-    expression_type : {n : ℕ} {us rest : List Token} {e : Expr} → ExpressionAt level.Pipe n us e rest → FunctionArg n (Mark Reference ∷ us) (argument.Reference e) rest
+    expression_type : {n : ℕ} {us rest : List Token} {e : Expr} → ExpressionAt level.Pipe n us e rest → FunctionArg n (Mark Expref ∷ us) (argument.Expref e) rest
 
 -- a text whose tokens, up to its end, are this expression
 abbrev pub Expression : List ℕ → Expr → Type 0

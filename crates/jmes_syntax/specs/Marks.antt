@@ -23,7 +23,7 @@ single_mark b =
     (if b == 0x3A then Some mark.Colon else
     (if b == 0x2A then Some mark.Star else
     (if b == 0x40 then Some mark.Current else
-    (if b == 0x26 then Some mark.Reference else
+    (if b == 0x26 then Some mark.Expref else
     (if b == 0x21 then Some mark.Not else
     (if b == 0x7C then Some mark.Pipe else
     (if b == 0x28 then Some mark.OpenGroup else

@@ -126,14 +126,14 @@ mutual
   pub data LinkAt : ℕ → List Token → Linking → Type 0 where
     dot : {n : ℕ} {ts us : List Token} {o : Read (Step Expr)} → behind mark.Dot ts ≡ Some us → Part n us o → LinkAt n ts (linking link.Step o)
     index : {n : ℕ} {ts us : List Token} → behind mark.OpenBracket ts ≡ Some us → LinkAt n ts (linking link.Step (index_in n us))
-    filter : {n : ℕ} {ts us : List Token} {o : Read Expr} → behind mark.OpenFilter ts ≡ Some us → Enclosed mark.CloseBracket n us o → LinkAt n ts (linking (λ e. link.Step (step.Filter e)) o)
+    filter : {n : ℕ} {ts us : List Token} {o : Read Expr} → behind mark.OpenFilter ts ≡ Some us → Enclosed mark.CloseBracket n us o → LinkAt n ts (linking (λ e. link.Step (step.FilterProjection e)) o)
     flatten : {n : ℕ} {ts us : List Token} → behind mark.Flatten ts ≡ Some us → LinkAt n ts (linking (λ k. k) (flatten_in n us))
     chain_ends : {n : ℕ} {ts : List Token} → behind mark.Dot ts ≡ None → behind mark.OpenBracket ts ≡ None → behind mark.OpenFilter ts ≡ None → behind mark.Flatten ts ≡ None → LinkAt n ts (Ok None)
 
   -- what a chain begins with
   pub data First : ℕ → List Token → Read Link → Type 0 where
     group : {n : ℕ} {ts us : List Token} {o : Read Expr} → behind mark.OpenGroup ts ≡ Some us → Enclosed mark.CloseGroup n us o → First n ts (made (λ e. link.Step (step.Group e)) o)
-    first_filter : {n : ℕ} {ts us : List Token} {o : Read Expr} → behind mark.OpenFilter ts ≡ Some us → Enclosed mark.CloseBracket n us o → First n ts (made (λ e. link.Step (step.Filter e)) o)
+    first_filter : {n : ℕ} {ts us : List Token} {o : Read Expr} → behind mark.OpenFilter ts ≡ Some us → Enclosed mark.CloseBracket n us o → First n ts (made (λ e. link.Step (step.FilterProjection e)) o)
     first_index : {n : ℕ} {ts us : List Token} → behind_index ts ≡ Some us → First n ts (made link.Step (index_in n us))
     first_flatten : {n : ℕ} {ts us : List Token} → behind mark.Flatten ts ≡ Some us → First n ts (flatten_in n us)
     current : {n : ℕ} {ts us : List Token} → behind mark.Current ts ≡ Some us → First n ts (Ok (link.Step step.Current, us))
@@ -198,7 +198,7 @@ mutual
     more_arguments : {n : ℕ} {args : List (Argument Expr)} {ts us rest : List Token} {a : Argument Expr} {o : Read (List (Argument Expr))} → ArgumentAt n ts (Ok (a, us)) → behind mark.CloseGroup us ≡ None → past mark.Comma us ≡ Ok rest → MoreArguments n (args ++ a ∷ []) rest o → MoreArguments n args ts o
     open_call : {n : ℕ} {args : List (Argument Expr)} {ts us : List Token} {a : Argument Expr} {s : Stop} → ArgumentAt n ts (Ok (a, us)) → behind mark.CloseGroup us ≡ None → past mark.Comma us ≡ Err s → MoreArguments n args ts (Err s)
 
-  -- an expression, or a reference `&` to one
+  -- an expression, or an expref `&` to one
   pub data ArgumentAt : ℕ → List Token → Read (Argument Expr) → Type 0 where
-    reference : {n : ℕ} {ts us : List Token} {o : Read Expr} → behind mark.Reference ts ≡ Some us → Joined level.Pipe n us o → ArgumentAt n ts (made argument.Reference o)
-    value : {n : ℕ} {ts : List Token} {o : Read Expr} → behind mark.Reference ts ≡ None → Joined level.Pipe n ts o → ArgumentAt n ts (made argument.Value o)
+    expref : {n : ℕ} {ts us : List Token} {o : Read Expr} → behind mark.Expref ts ≡ Some us → Joined level.Pipe n us o → ArgumentAt n ts (made argument.Expref o)
+    value : {n : ℕ} {ts : List Token} {o : Read Expr} → behind mark.Expref ts ≡ None → Joined level.Pipe n ts o → ArgumentAt n ts (made argument.Value o)

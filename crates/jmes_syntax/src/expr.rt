@@ -49,8 +49,8 @@ pub struct Chain<T> {
     pub flattened: List<List<Step<T>>>,
 }
 
-/// A part of a chain. `Values`, `Elements`, `Slice` and `Filter` are projections: the rest of their
-/// segment is applied to each element.
+/// A part of a chain. `Values`, `Elements`, `Slice` and `FilterProjection` are projections: the rest of
+/// their segment is applied to each element.
 #[derive(Debug, Drop)]
 pub enum Step<T> {
     /// `@`, the current node.
@@ -76,7 +76,7 @@ pub enum Step<T> {
     /// `[start:stop:step]`
     Slice(Slice),
     /// `[?e]`
-    Filter(T),
+    FilterProjection(T),
 }
 
 /// The elements from `start` to before `stop`, counted as in Python. A part that isn't written is
@@ -88,9 +88,9 @@ pub struct Slice {
     pub step: Whole,
 }
 
-/// An argument of a function: an expression, or a reference `&e` to one.
+/// An argument of a function: an expression, or an expref `&e` to one.
 #[derive(Debug, Drop)]
 pub enum Argument<T> {
     Value(T),
-    Reference(T),
+    Expref(T),
 }

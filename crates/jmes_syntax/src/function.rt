@@ -41,11 +41,11 @@ pub enum Arity {
     AtLeast(u64),
 }
 
-/// What an argument is to be: the value of an expression, or a reference to one.
+/// What an argument is to be: the value of an expression, or an expref to one.
 #[derive(Clone, Copy, Debug, PartialEq, Eq)]
 pub enum Parameter {
     Value,
-    Reference,
+    Expref,
 }
 
 /// All functions, in the order of their names.
@@ -146,8 +146,8 @@ impl Function {
         ensures { result ≡ parameter_of self at }
     {
         match self {
-            Function::Map if at == 0 => Parameter::Reference,
-            Function::MaxBy | Function::MinBy | Function::SortBy if at == 1 => Parameter::Reference,
+            Function::Map if at == 0 => Parameter::Expref,
+            Function::MaxBy | Function::MinBy | Function::SortBy if at == 1 => Parameter::Expref,
             _ => Parameter::Value,
         }
     }

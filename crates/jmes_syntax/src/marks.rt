@@ -30,7 +30,7 @@ pub fn single_mark(byte: u8) -> Option<Mark>
         b':' => Some(Mark::Colon),
         b'*' => Some(Mark::Star),
         b'@' => Some(Mark::Current),
-        b'&' => Some(Mark::Reference),
+        b'&' => Some(Mark::Expref),
         b'!' => Some(Mark::Not),
         b'|' => Some(Mark::Pipe),
         b'(' => Some(Mark::OpenGroup),

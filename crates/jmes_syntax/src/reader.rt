@@ -265,7 +265,7 @@ fn read_first(alloc: Global, depth: usize, tokens: &[Token]) -> Result<(Link, &[
     }
     if let Some(rest) = strip(tokens, Mark::OpenFilter) {
         let (test, rest) = read_enclosed(alloc, depth, Mark::CloseBracket, rest)?;
-        return Ok((Link::Step(Step::Filter(test)), rest));
+        return Ok((Link::Step(Step::FilterProjection(test)), rest));
     }
     if let Some(rest) = strip_index(tokens) {
         let (index, rest) = read_inside(depth, rest)?;
@@ -306,7 +306,7 @@ fn read_link(
     }
     if let Some(rest) = strip(tokens, Mark::OpenFilter) {
         let (test, rest) = read_enclosed(alloc, depth, Mark::CloseBracket, rest)?;
-        return Ok(Some((Link::Step(Step::Filter(test)), rest)));
+        return Ok(Some((Link::Step(Step::FilterProjection(test)), rest)));
     }
     if let Some(rest) = strip(tokens, Mark::Flatten) {
         let (flatten, rest) = read_flatten(depth, rest)?;
@@ -485,7 +485,7 @@ fn read_members(
     }
 }
 
-// An argument: an expression, or a reference to one.
+// An argument: an expression, or an expref to one.
 #[cycle(read)]
 fn read_argument(
     alloc: Global,
@@ -495,9 +495,9 @@ fn read_argument(
     ensures read { IfOk result (λ x. ArgumentAt depth tokens.now (Ok (x.0, x.1.now))) }
     ensures fault { IfErr result (Stops (λ s. ArgumentAt depth tokens.now (Err s))) }
 {
-    if let Some(rest) = strip(tokens, Mark::Reference) {
+    if let Some(rest) = strip(tokens, Mark::Expref) {
         let (expr, rest) = read_joined(alloc, Level::Pipe, depth, rest)?;
-        return Ok((Argument::Reference(expr), rest));
+        return Ok((Argument::Expref(expr), rest));
     }
     let (expr, rest) = read_joined(alloc, Level::Pipe, depth, tokens)?;
     Ok((Argument::Value(expr), rest))

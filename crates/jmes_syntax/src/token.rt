@@ -20,7 +20,7 @@ pub enum Mark {
     /// `@`
     Current,
     /// `&`
-    Reference,
+    Expref,
     /// `!`
     Not,
     /// `&&`

@@ -17,5 +17,5 @@ decreases-same_fields l = 2 * most (λ p. size-Doc p.value) l.a.now + 1
 abbrev pub invariant-same_items-loop-at : goal.invariant-same_items-loop-at
 invariant-same_items-loop-at l = (each_same (map same (drop l.at l.a)) (drop l.at l.b) ≡ each_same (map same l.fn.a) l.fn.b) × (length l.a ≡ length l.b)
 
-abbrev pub invariant-same_fields-loop-at : goal.invariant-same_fields-loop-at
-invariant-same_fields-loop-at l = list_all (has_doc_field l.b) (drop l.at l.a) ≡ list_all (has_doc_field l.fn.b) l.fn.a
+abbrev pub invariant-same_fields-loop-pair : goal.invariant-same_fields-loop-pair
+invariant-same_fields-loop-pair l = list_all (has_doc_field l.b) (drop l.pair-index l.a) ≡ list_all (has_doc_field l.fn.b) l.fn.a

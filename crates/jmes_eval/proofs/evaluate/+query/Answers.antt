@@ -8,8 +8,8 @@ use Rattle.jmes_eval.proofs.Meanings.{meaning-Compare}
 use Rattle.jmes_eval.proofs.Segments.{segment, segments, segments_on, segments_fail, came, ends_so}
 use Rattle.jmes_eval.proofs.evaluate.+query.Goals as goal
 
-pub look-returns-in-Compare : goal.look-returns-in-Compare
-look-returns-in-Compare t c =
+pub look_at-returns-in-Compare : goal.look_at-returns-in-Compare
+look_at-returns-in-Compare t c =
     let o = c.in-Compare.operand in
     let cs = c.in-Compare.others in
     let told = subst (λ xs. GivesBy seen_doc (compare_of (operand_with meaning o) (map (compared_with meaning) xs) c.args.doc.now) c.comparisons.result) c.as_slice-in-Compare.ensures c.comparisons.ensures in
@@ -25,10 +25,10 @@ look_along-returns-in_err-at-2 t c =
     let chain = c.args.chain.now in
     let all = c.as_slice-steps-items.result.now in
     let start = seen_doc c.in_ok-at.at in
-    ends_so seen_doc seen_doc (segment c.steps-item.result (seen_doc c.loop-steps.at)) (chain_of (chain_with meaning chain) c.args.doc.now) c.from_residual-in_err-at-2.result c.in_err-at-2.field-0.0
+    ends_so seen_doc seen_doc (segment c.steps-item.result (seen_doc c.loop-steps.at)) (chain_of (chain_with meaning chain) (seen_doc c.args.at)) c.from_residual-in_err-at-2.result c.in_err-at-2.field-0.0
     (came c.from_residual-in_err-at-2.result c.in_err-at-2.field-0.0 c.from_residual-in_err-at-2.ensures) c.in_err-at-2.ensures
     (λ fails.
-    ap (λ ys. run (steps_with meaning ys) c.args.doc.now >>= segments chain.flattened) (sym c.as_slice.ensures)
+    ap (λ ys. run (steps_with meaning ys) (seen_doc c.args.at) >>= segments chain.flattened) (sym c.as_slice.ensures)
     ∙ ap (λ r. r >>= segments chain.flattened) c.in_ok-at.ensures
     ∙ ap (λ ys. segments ys start) (sym c.as_slice-steps-items.ensures)
     ∙ segments_fail all c.loop-steps.steps-index c.steps-item.result (seen_doc c.loop-steps.at) c.in_err-at-2.field-0.0 (segments all start) c.loop-steps-test.true c.steps-item.is c.loop-steps.invariant fails)

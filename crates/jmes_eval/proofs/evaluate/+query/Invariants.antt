@@ -1,24 +1,28 @@
 use Rattle.std.proofs.Common.{◌≡◌, ◌+◌, ◌++◌, true, [], drop, map}
 use Rattle.std.specs.Prelude.{Ok}
+use Rattle.std.specs.Vec.Iter.{into_iter_items}
 use Rattle.json_doc.specs.declared.doc.Doc as doc
 use Rattle.json_doc.specs.Grammar.{put_all}
 use Rattle.texts.specs.Calls.{◌>>=◌}
 use Rattle.jmes_eval.specs.Entries.{entries_of}
 use Rattle.jmes_eval.specs.Meaning.{meaning, piped, either, both, comparisons, behind, run, each, sieved, values_at, pairs_at, arguments_at, mapped, keyed}
 use Rattle.jmes_eval.specs.Parts.{argument_with, chain_with, compared_with, operand_with, pair_with, step_with, steps_with}
-use Rattle.jmes_eval.specs.Seen.{seen_doc, seen_values, looked}
+use Rattle.jmes_eval.specs.Seen.{seen_doc, seen_values, seen_all}
 use Rattle.jmes_eval.specs.Weights.{total, weight, step_weight, chain_weight, operand_weight, compared_weight, arguments_weight}
 use Rattle.jmes_eval.proofs.KeysSoFar.{keyed_after}
 use Rattle.jmes_eval.proofs.evaluate.+query.Given as goal
 
 abbrev pub decreases-look : goal.decreases-look
-decreases-look l = weight l.expr.now
+decreases-look l = weight l.expr.now + 2
+
+abbrev pub decreases-look_again : goal.decreases-look_again
+decreases-look_again l = weight l.expr.now + 1
+
+abbrev pub decreases-look_at : goal.decreases-look_at
+decreases-look_at l = weight l.expr.now
 
 abbrev pub decreases-look_through : goal.decreases-look_through
 decreases-look_through l = total weight l.parts.now
-
-abbrev pub decreases-go_on : goal.decreases-go_on
-decreases-go_on l = weight l.expr.now + 1
 
 abbrev pub decreases-either : goal.decreases-either
 decreases-either l = total weight l.sides.now
@@ -38,23 +42,32 @@ decreases-look_along l = chain_weight (chain_with weight l.chain.now)
 abbrev pub decreases-flatten : goal.decreases-flatten
 decreases-flatten l = total (λ s. step_weight (step_with weight s)) l.steps.now + 3
 
-abbrev pub decreases-flattened : goal.decreases-flattened
-decreases-flattened l = total (λ s. step_weight (step_with weight s)) l.steps.now + 2
+abbrev pub decreases-each_or_null : goal.decreases-each_or_null
+decreases-each_or_null l = total (λ s. step_weight (step_with weight s)) l.steps.now + 2
 
 abbrev pub decreases-walk : goal.decreases-walk
 decreases-walk l = total (λ s. step_weight (step_with weight s)) l.steps.now
 
 abbrev pub decreases-project : goal.decreases-project
-decreases-project l = step_weight (step_with weight l.step.now) + total (λ s. step_weight (step_with weight s)) l.rest.now + 3
+decreases-project l = step_weight (step_with weight l.step.now) + total (λ s. step_weight (step_with weight s)) l.rest.now + 4
 
 abbrev pub decreases-each : goal.decreases-each
 decreases-each l = total (λ s. step_weight (step_with weight s)) l.steps.now + 1
 
 abbrev pub decreases-filter : goal.decreases-filter
-decreases-filter l = weight l.test.now + total (λ s. step_weight (step_with weight s)) l.steps.now + 2
+decreases-filter l = weight l.test.now + total (λ s. step_weight (step_with weight s)) l.steps.now + 3
+
+abbrev pub decreases-each_passing : goal.decreases-each_passing
+decreases-each_passing l = weight l.test.now + total (λ s. step_weight (step_with weight s)) l.steps.now + 2
+
+abbrev pub decreases-passes : goal.decreases-passes
+decreases-passes l = weight l.test.now + 1
 
 abbrev pub decreases-go_a_step : goal.decreases-go_a_step
-decreases-go_a_step l = step_weight (step_with weight l.step.now) + 2
+decreases-go_a_step l = step_weight (step_with weight l.step.now) + 4
+
+abbrev pub decreases-part_of : goal.decreases-part_of
+decreases-part_of l = step_weight (step_with weight l.step.now) + 3
 
 abbrev pub decreases-part : goal.decreases-part
 decreases-part l = step_weight (step_with weight l.step.now) + 1
@@ -90,7 +103,7 @@ abbrev pub decreases-keyed : goal.decreases-keyed
 decreases-keyed l = weight l.expr.now + 1
 
 abbrev pub invariant-look_through-loop-part : goal.invariant-look_through-loop-part
-invariant-look_through-loop-part l = piped (map meaning (drop l.part-index l.parts)) (seen_doc l.at) ≡ piped (map meaning l.fn.parts) l.fn.doc
+invariant-look_through-loop-part l = piped (map meaning (drop l.part-index l.parts)) (seen_doc l.at) ≡ piped (map meaning l.fn.parts) (seen_doc l.fn.at)
 
 abbrev pub invariant-either-loop-side : goal.invariant-either-loop-side
 invariant-either-loop-side l = either (map meaning (drop l.side-index l.sides)) (seen_doc l.at) l.doc ≡ either (map meaning l.fn.sides) doc.Null l.fn.doc
@@ -105,15 +118,15 @@ abbrev pub invariant-look_along-loop-steps : goal.invariant-look_along-loop-step
 invariant-look_along-loop-steps l = behind (map (steps_with meaning) (drop l.steps-index l.steps-items)) (seen_doc l.at) ≡ behind (map (steps_with meaning) l.steps-items) (seen_doc l.initial.at)
 
 abbrev pub invariant-walk-loop-i : goal.invariant-walk-loop-i
-invariant-walk-loop-i l = run (steps_with meaning (drop l.i l.steps)) (seen_doc l.at) ≡ run (steps_with meaning l.fn.steps) l.fn.doc
+invariant-walk-loop-i l = run (steps_with meaning (drop l.i l.steps)) (seen_doc l.at) ≡ run (steps_with meaning l.fn.steps) (seen_doc l.fn.at)
 
 abbrev pub invariant-each-loop-place : goal.invariant-each-loop-place
 invariant-each-loop-place l =
-    (each (run (steps_with meaning l.steps)) (looked (drop l.place-index l.places)) >>= (λ xs. Ok (l.made ++ xs))) ≡ each (run (steps_with meaning l.fn.steps)) (looked l.fn.places)
+    (each (run (steps_with meaning l.steps)) (seen_all (into_iter_items l.place-iterator)) >>= (λ xs. Ok (l.made ++ xs))) ≡ each (run (steps_with meaning l.fn.steps)) (seen_all l.fn.places.items)
 
-abbrev pub invariant-filter-loop-item : goal.invariant-filter-loop-item
-invariant-filter-loop-item l =
-    (each (sieved (meaning l.test) (run (steps_with meaning l.steps))) (drop l.item-index l.items) >>= (λ xs. Ok (l.made ++ xs))) ≡ each (sieved (meaning l.fn.test) (run (steps_with meaning l.fn.steps))) l.fn.items
+abbrev pub invariant-each_passing-loop-place : goal.invariant-each_passing-loop-place
+invariant-each_passing-loop-place l =
+    (each (sieved (meaning l.test) (run (steps_with meaning l.steps))) (seen_all (into_iter_items l.place-iterator)) >>= (λ xs. Ok (l.made ++ xs))) ≡ each (sieved (meaning l.fn.test) (run (steps_with meaning l.fn.steps))) (seen_all l.fn.places.items)
 
 abbrev pub invariant-list-loop-expr : goal.invariant-list-loop-expr
 invariant-list-loop-expr l = (values_at (map meaning (drop l.expr-index l.exprs)) l.doc >>= (λ xs. Ok (l.made ++ xs))) ≡ values_at (map meaning l.fn.exprs) l.fn.doc

@@ -364,10 +364,10 @@ read_arguments-loop-arguments-preserved t c = λ o rest.
 pub read_argument-returns-in_err-expr-clause-fault : goal.read_argument-returns-in_err-expr-clause-fault
 read_argument-returns-in_err-expr-clause-fault t c =
     let p = err_from_is_err_and c.from_residual.result c.from_residual.ensures.1 in
-    rw (p.1, p.2) (weaker _ (λ s. ArgumentAt c.args.depth c.args.tokens.now (Err s)) _ (λ s h. ArgumentAt.reference {o = Err s} c.in-Some.ensures h) c.in_err-expr.ensures.fault)
+    rw (p.1, p.2) (weaker _ (λ s. ArgumentAt c.args.depth c.args.tokens.now (Err s)) _ (λ s h. ArgumentAt.expref {o = Err s} c.in-Some.ensures h) c.in_err-expr.ensures.fault)
 
 pub read_argument-returns-in-Some-clause-read : goal.read_argument-returns-in-Some-clause-read
-read_argument-returns-in-Some-clause-read t c = ArgumentAt.reference c.in-Some.ensures c.in_ok-expr.ensures.read
+read_argument-returns-in-Some-clause-read t c = ArgumentAt.expref c.in-Some.ensures c.in_ok-expr.ensures.read
 
 pub read_argument-returns-in_err-expr-2-clause-fault : goal.read_argument-returns-in_err-expr-2-clause-fault
 read_argument-returns-in_err-expr-2-clause-fault t c =
