@@ -1,0 +1,17 @@
+pub mod Counting
+pub mod Cutting
+pub mod FaultKinds
+pub mod Found
+pub mod Gifts
+pub mod Heading
+pub mod Marking
+pub mod Naming
+pub mod Numbered
+pub mod OnceEach
+pub mod Passing
+pub mod Replacing
+pub mod Splitting
+pub mod Tabling
+pub mod Tailing
+pub mod Telling
+pub mod Together

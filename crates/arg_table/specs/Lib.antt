@@ -1,0 +1,10 @@
+pub mod Words
+pub mod Settings
+pub mod Heads
+pub mod Counts
+pub mod Tables
+pub mod Given
+pub mod Lines
+pub mod FaultText
+pub mod Steps
+pub mod Laws
