@@ -7,8 +7,12 @@ mod call;
 mod documents;
 mod expressions;
 mod formats;
+mod lines;
 mod models;
 mod queries;
+mod settings;
+mod signing;
+mod values;
 
 use std::io;
 

@@ -50,6 +50,23 @@ pub fn refusal(alloc: Global, file: &[u8], command: &[u8]) -> Result<Text, OutOf
     Ok(Text::from_string(text))
 }
 
+/// What a model says of its whole service.
+pub fn metadata(alloc: Global, file: &[u8]) -> Result<Text, OutOfMemory> {
+    let Some(Ok(model)) = document(alloc, file).map(|doc| Model::read(alloc, &doc)) else {
+        return Text::from_str(alloc, "no model");
+    };
+    let of = model.metadata();
+    let (protocol, version, target) = (of.protocol, &of.json_version, &of.target_prefix);
+    let (endpoint, signing) = (&of.endpoint_prefix, &of.signing_name);
+    let head = format!(in alloc; "{protocol:?}, version '{version}', target '{target}'")?;
+    let mut text = Text::from_string(head);
+    text.push_str(format!(in alloc; ", endpoint {endpoint}")?.as_str())?;
+    if let Some(name) = signing {
+        text.push_str(format!(in alloc; ", signed as {name}")?.as_str())?;
+    }
+    Ok(text)
+}
+
 /// What a model says of the operation of a command, a line each.
 pub fn operation(alloc: Global, file: &[u8], command: &[u8]) -> Result<Text, OutOfMemory> {
     let Some(Ok(model)) = document(alloc, file).map(|doc| Model::read(alloc, &doc)) else {

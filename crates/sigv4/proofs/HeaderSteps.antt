@@ -3,14 +3,7 @@ use Rattle.std.proofs.Common.{◌≡◌, ℕ, ◌+◌, ◌<◌, true, false, not
 use Rattle.std.specs.Prelude.{bytes_eq, codes, filter}
 use Rattle.std.proofs.lemmas.Bool.{cond-true, cond-false}
 use Rattle.std.proofs.lemmas.List.{at_drop_more}
-use Rattle.sigv4.specs.Joined.{behind}
 use Rattle.sigv4.specs.Headers.{lowered, canonical_header, is_signed, canonical_headers, values_of}
-
--- one more text behind its mark
-pub one_more : (out before mark text : List ℕ) (texts : List (List ℕ))
-    → ((out ++ before) ++ text) ++ behind mark mark texts ≡ out ++ behind before mark (text ∷ texts)
-one_more out before mark text texts =
-    ap (λ s. s ++ behind mark mark texts) (append_assoc out before text) ∙ append_assoc out (before ++ text) (behind mark mark texts)
 
 module _ (headers : List (List ℕ × List ℕ)) (i : ℕ) (item : List ℕ × List ℕ) (within : i < length headers) (is : item ≡ get_or headers i item) where
   abbrev rest : List (List ℕ × List ℕ)

@@ -4,6 +4,7 @@ pub mod Epoch
 pub mod Escapes
 pub mod HeaderSteps
 pub mod Listed
+pub mod Marks
 pub mod PathParts
 pub mod PlainDigits
 pub mod OneForms

@@ -10,7 +10,7 @@ use Rattle.jiff_core.proofs.DateTimeLemmas.{civil_nanos_injective, time_nanos_in
 use Rattle.aws_world.specs.declared.message.Message.{Message}
 use Rattle.sigv4.specs.declared.signer.Signer.{Signer}
 use Rattle.sigv4.specs.Hmac.{hmac_of}
-use Rattle.sigv4.specs.Joined.{line}
+use Rattle.sigv4.specs.Line.{line}
 use Rattle.sigv4.specs.Moment.{two_digits, date_text, moment_text}
 use Rattle.sigv4.specs.Headers.{canonical_headers, AreSignedNames, signed_headers}
 use Rattle.sigv4.specs.Canonical.{canonical_request}

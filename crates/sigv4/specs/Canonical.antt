@@ -3,7 +3,7 @@ use Rattle.std.specs.Prelude.{ℕ, List, ◌++◌}
 use Rattle.sha2.specs.Sha256.{sha256}
 use Rattle.hex.specs.Hex.{encode_lower}
 use Rattle.aws_world.specs.declared.message.Message.{Message}
-use Rattle.sigv4.specs.Joined.{line}
+use Rattle.sigv4.specs.Line.{line}
 use Rattle.sigv4.specs.Path.{canonical_path}
 use Rattle.sigv4.specs.Parameters.{canonical_query}
 use Rattle.sigv4.specs.Headers.{canonical_headers, header_lines, signed_headers}

@@ -1,8 +1,9 @@
 -- The headers that are signed: AWS's "Create a signed AWS API request", CanonicalHeaders and SignedHeaders.
 use Rattle.std.specs.Prelude.{ℕ, Bool, true, false, not, ◌==◌, ◌||◌, ◌&&◌, if◌then◌else◌, List, [], ◌∷◌, ◌++◌, map, filter, flat_map, reverse, codes, bytes_eq, AllPairs, Contains, ◌↔◌}
 use Rattle.std.specs.Char.{to_ascii_lowercase}
+use Rattle.texts.specs.Joined.{joined}
 use Rattle.texts.specs.Order.{IsBefore}
-use Rattle.sigv4.specs.Joined.{joined, line}
+use Rattle.sigv4.specs.Line.{line}
 
 -- a space or a tab
 abbrev pub is_blank : ℕ → Bool

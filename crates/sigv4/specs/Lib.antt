@@ -2,7 +2,7 @@ pub mod Canonical
 pub mod FaultText
 pub mod Headers
 pub mod Hmac
-pub mod Joined
+pub mod Line
 pub mod Moment
 pub mod OneForm
 pub mod Parameters

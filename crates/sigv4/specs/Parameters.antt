@@ -4,8 +4,8 @@ use Rattle.std.specs.Borrow.{Bor}
 use Rattle.std.specs.Str.{chars}
 use Rattle.std.specs.Ordering.{ordering_then}
 use Rattle.std.specs.declared.cmp.Ordering.{Ordering}
+use Rattle.texts.specs.Joined.{joined}
 use Rattle.texts.specs.Order.{text_cmp}
-use Rattle.sigv4.specs.Joined.{joined}
 
 -- by the name, then by the value
 abbrev pub parameter_cmp : List ℕ × List ℕ → List ℕ × List ℕ → Ordering

@@ -6,7 +6,7 @@ use Rattle.jiff_core.specs.declared.civil.datetime.DateTime.{DateTime}
 use Rattle.aws_world.specs.declared.message.Message.{Message}
 use Rattle.sigv4.specs.declared.signer.Signer.{Signer}
 use Rattle.sigv4.specs.Hmac.{hmac_of}
-use Rattle.sigv4.specs.Joined.{line}
+use Rattle.sigv4.specs.Line.{line}
 use Rattle.sigv4.specs.Moment.{IsAt, date_text, moment_text}
 use Rattle.sigv4.specs.Parameters.{IsSortedQuery}
 use Rattle.sigv4.specs.Headers.{canonical_headers, AreSignedNames, signed_headers}

@@ -1,6 +1,6 @@
 ghost use Rattle.std.specs.Prelude.{◌≡◌, ◌++◌, IfOk, OnOk, codes};
 ghost use Rattle.sigv4.specs.Headers.{AreSignedNames, canonical_headers, values_of, header_line, header_lines};
-ghost use Rattle.sigv4.specs.Joined.{joined};
+ghost use Rattle.texts.specs.Joined.{joined};
 
 use crate::header_names::signed_names;
 use crate::header_values::{canonical_value, lowered};

@@ -15,8 +15,6 @@ mod pieces;
 mod sign_fault;
 mod signer;
 mod signing;
-#[cfg(test)]
-mod tests;
 
 pub use keyed_hash::hmac;
 pub use laws::has_one_signed_form;

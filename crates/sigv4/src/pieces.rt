@@ -2,7 +2,7 @@ ghost use Rattle.std.specs.Prelude.{◌≡◌, ◌++◌, IsTrue, IfOk, OnOk, [],
 ghost use Rattle.texts.specs.Ascii.{is_ascii_text};
 ghost use Rattle.sha2.specs.Sha256.{sha256};
 ghost use Rattle.hex.specs.Hex.{encode_lower};
-ghost use Rattle.sigv4.specs.Joined.{joined};
+ghost use Rattle.texts.specs.Joined.{joined};
 
 use sha2::{Digest, Sha256};
 use std::alloc::Global;

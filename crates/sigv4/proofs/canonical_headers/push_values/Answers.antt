@@ -1,14 +1,21 @@
 use Rattle.std.proofs.Common.{rules, ◌≡◌, ◌+◌, ◌++◌, Bool, true, false, not, drop, refl, sym, ap, ◌∙◌}
 use Rattle.std.specs.Prelude.{codes}
 use Rattle.std.specs.Str.{chars}
-use Rattle.sigv4.specs.Joined.{behind}
 use Rattle.sigv4.specs.Headers.{values_of}
-use Rattle.sigv4.proofs.HeaderSteps.{one_more, value_here}
+use Rattle.sigv4.proofs.HeaderSteps.{value_here}
+use Rattle.sigv4.proofs.Marks.{behind, behind_nothing, one_more}
 use Rattle.sigv4.proofs.canonical_headers.push_values.Goals as goal
 
 from_not : (b : Bool) → not b ≡ false → b ≡ true
 from_not true h = refl
 from_not false h = cc
+
+pub loop-other-init : goal.loop-other-init
+loop-other-init c = record {
+  text = search rules;
+  plain = search rules;
+  due = ap (λ s. c.args.out.now ++ s) (behind_nothing (codes ",") (values_of c.args.fields.now c.args.name.now));
+}
 
 pub loop-other-preserved : goal.loop-other-preserved
 loop-other-preserved c =

@@ -3,8 +3,9 @@ use Rattle.std.specs.Prelude.{IsTrue, codes}
 use denote.Shadow.{shadow}
 use denote.Text.{Utf8}
 use Rattle.texts.specs.Ascii.{is_ascii_text}
-use Rattle.sigv4.specs.Joined.{behind, joined}
+use Rattle.texts.specs.Joined.{joined}
 use Rattle.sigv4.specs.Headers.{values_of}
+use Rattle.sigv4.proofs.Marks.{behind}
 use Rattle.sigv4.proofs.canonical_headers.push_values.Given as goal
 
 -- the values so far and those that are due are all of them

@@ -1,10 +1,16 @@
 use Rattle.std.proofs.Common.{rules, ℕ, List, [], ◌+◌, ◌++◌, drop, map, get_or, sym, ap, ◌∙◌, Bor}
 use Rattle.std.specs.Prelude.{codes}
 use Rattle.std.proofs.lemmas.List.{at_drop_more}
-use Rattle.sigv4.specs.Joined.{behind}
 use Rattle.sigv4.specs.Parameters.{parameter, shown}
-use Rattle.sigv4.proofs.HeaderSteps.{one_more}
+use Rattle.sigv4.proofs.Marks.{behind, behind_nothing, one_more}
 use Rattle.sigv4.proofs.parameters.push_query.Goals as goal
+
+pub loop-name-init : goal.loop-name-init
+loop-name-init c = record {
+  text = search rules;
+  plain = search rules;
+  due = ap (λ s. c.args.out.now ++ s) (behind_nothing (codes "&") (map parameter (map shown c.args.sorted.now)));
+}
 
 pub loop-name-preserved : goal.loop-name-preserved
 loop-name-preserved c =

@@ -3,7 +3,8 @@ use Rattle.std.specs.Prelude.{IsTrue}
 use denote.Shadow.{shadow}
 use denote.Text.{Utf8}
 use Rattle.texts.specs.Ascii.{is_ascii_text}
-use Rattle.sigv4.specs.Joined.{behind, joined}
+use Rattle.texts.specs.Joined.{joined}
+use Rattle.sigv4.proofs.Marks.{behind}
 use Rattle.sigv4.proofs.pieces.push_joined.Given as goal
 
 -- the texts so far and those that are due are all of them
