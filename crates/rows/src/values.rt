@@ -1,6 +1,8 @@
 //! Typed values: their faults, their tables, and those of page tokens. The shapes of a model are given,
 //! and the value is judged at the one that is called `Top`. A value is written as JSON, where
 //! `{"$blob": TEXT}`, `{"$moment": NUMBER}` and `{"$any": DOCUMENT}` stand for what JSON lacks.
+ghost use Rattle.std.specs.Prelude.{◌<◌, length, IfSome};
+
 use crate::documents::told;
 use json_doc::{Decimal, Doc, List, OutOfMemory, Pair, Pairs, Text, compact, copy, read};
 use service_model::{Model, ShapeId, whole};
@@ -100,7 +102,9 @@ fn model_of(alloc: Global, shapes: &[u8]) -> Result<Option<Model>, OutOfMemory> 
     }
 }
 
-fn top_of(model: &Model) -> Option<ShapeId> {
+fn top_of(model: &Model) -> Option<ShapeId>
+    ensures { IfSome result (λ id. id.0 < length model.now.shapes) }
+{
     for number in 0..model.shape_count() {
         if model.shape(ShapeId(number)).name.is("Top") {
             return Some(ShapeId(number));
