@@ -35,11 +35,26 @@ pub fn table(alloc: Global, shapes: &[u8], value: &[u8]) -> Result<Text, OutOfMe
     let Some(top) = top_of(&model) else {
         return Text::from_str(alloc, "no shape");
     };
-    let flat = Flat::of(alloc, &value)?;
-    let (count, fits) = (flat.count(), fits_flat(&model, top, &flat));
-    let faults = validate_flat(alloc, &model, top, &flat)?;
-    let first = first_line(alloc, &model, &faults)?;
-    let number = faults.len();
+    table_at(alloc, &model, top, &value)
+}
+
+fn table_at(alloc: Global, model: &Model, top: ShapeId, value: &Typed) -> Result<Text, OutOfMemory>
+    requires { top.0 < length model.now.shapes }
+{
+    let flat = Flat::of(alloc, value)?;
+    let fits = fits_flat(model, top, &flat);
+    let faults = validate_flat(alloc, model, top, &flat)?;
+    let first = first_line(alloc, model, &faults)?;
+    summary(alloc, flat.count(), fits, faults.len(), &first)
+}
+
+fn summary(
+    alloc: Global,
+    count: u64,
+    fits: bool,
+    number: usize,
+    first: &Text,
+) -> Result<Text, OutOfMemory> {
     let text = format!(in alloc; "{count} nodes, fits {fits}, {number} faults{first}")?;
     Ok(Text::from_string(text))
 }
