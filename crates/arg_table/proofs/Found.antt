@@ -8,7 +8,7 @@ use Rattle.arg_table.specs.declared.words.OptionWord.{OptionWord}
 use Rattle.texts.specs.Calls.{◌>>=◌}
 use Rattle.arg_table.specs.Heads.{Next, front_taken, next_in, next_word}
 use Rattle.arg_table.specs.Settings.{Taken, setting_taken}
-use Rattle.arg_table.specs.Steps.{group_at, next_after}
+use Rattle.arg_table.specs.Inside.{group_at, next_after}
 use Rattle.arg_table.specs.Words.{before, cut, option_of}
 
 after_twice : (xs ys : List Setting) (r : Result Next UsageFault) → next_after xs (next_after ys r) ≡ next_after (xs ++ ys) r

@@ -6,7 +6,7 @@ use Rattle.arg_table.specs.declared.fault.UsageFault.{UsageFault}
 use Rattle.arg_table.specs.declared.settings.Setting.{Setting}
 use Rattle.texts.specs.Calls.{◌>>=◌}
 use Rattle.arg_table.specs.Heads.{Next, Tail, next_word, tail_of, is_wait, named_by, head_with, head_of}
-use Rattle.arg_table.specs.Steps.{next_after, tail_after}
+use Rattle.arg_table.specs.Inside.{next_after, tail_after}
 use Rattle.arg_table.specs.Words.{cut}
 
 abbrev at_waiter : List Setting → Next → Result Next UsageFault

@@ -8,7 +8,8 @@ use Rattle.std.specs.Prelude.{cond, is_some}
 use Rattle.service_model.specs.Arguments.{negation_of}
 use Rattle.arg_table.specs.declared.meaning.Meant.{Meant}
 use Rattle.arg_table.specs.declared.table.Argument.{Argument}
-use Rattle.arg_table.specs.Tables.{argument_named, is_flag, is_negation, meant_by, or_meant}
+use Rattle.arg_table.specs.Tables.{argument_named, is_flag, is_negation, meant_by}
+use Rattle.arg_table.specs.Inside.{or_meant}
 
 or_meant-assoc : (x y z : Option Meant) → or_meant (or_meant x y) z ≡ or_meant x (or_meant y z)
 or_meant-assoc (Some m) y z = refl

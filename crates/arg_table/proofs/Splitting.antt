@@ -1,6 +1,6 @@
 -- A command's line beside the table of its operation, one step after another.
-use Rattle.std.proofs.Common.{◌≡◌, ◌⊎◌, inl, inr, refl, sym, ap, ◌∙◌}
-use Rattle.std.specs.Prelude.{ℕ, Bool, if◌then◌else◌, List, [], ◌∷◌, Option, None, Result, Ok, Err, option_map}
+use Rattle.std.proofs.Common.{◌≡◌, refl, sym, ap, ◌∙◌}
+use Rattle.std.specs.Prelude.{ℕ, Bool, true, false, if◌then◌else◌, List, [], ◌∷◌, Option, None, Result, Ok, Err, option_map}
 use Rattle.std.specs.Str.{chars}
 use Rattle.arg_table.specs.declared.command.CommandHead.{CommandHead}
 use Rattle.arg_table.specs.declared.fault.UsageFault.{UsageFault}
@@ -8,13 +8,14 @@ use Rattle.arg_table.specs.declared.given.Given.{Given}
 use Rattle.arg_table.specs.declared.given.Given.TheVariants.{Argument, InputJson, StartingToken, MaxItems, PageSize}
 use Rattle.arg_table.specs.declared.lines.Line.{Line}
 use Rattle.arg_table.specs.declared.table.ArgTable.{ArgTable}
-use Rattle.texts.specs.Calls.{◌>>=◌}
+use Rattle.texts.specs.Calls.{◌>>=◌, Unless}
 use Rattle.arg_table.specs.Given.{given_in}
 use Rattle.arg_table.specs.Lines.{line_of, line_from, first_paging, has_conflict, conflict_of, missing_of, no_conflict, no_missing}
 
-pub or_else : {P Q R : Type 0} → (Q → R) → P ⊎ Q → P ⊎ R
-or_else f (inl p) = inl p
-or_else f (inr q) = inr (f q)
+-- a reason for what has the first reason is one for the second
+pub for_reason : {Q R : Type 0} (is_free : Bool) → (Q → R) → Unless is_free Q → Unless is_free R
+for_reason true f given = given
+for_reason false f given = f given
 
 -- the names of options for pages are ASCII
 pub paging_chars : (givens : List Given) → option_map chars (first_paging givens) ≡ first_paging givens

@@ -8,7 +8,7 @@ use Rattle.arg_table.specs.declared.words.OptionWord.{OptionWord}
 use Rattle.texts.specs.Calls.{◌>>=◌}
 use Rattle.arg_table.specs.Heads.{Tail, tail_taken, tail_in, tail_of}
 use Rattle.arg_table.specs.Settings.{Taken, setting_taken}
-use Rattle.arg_table.specs.Steps.{group_at, tail_after}
+use Rattle.arg_table.specs.Inside.{group_at, tail_after}
 use Rattle.arg_table.specs.Words.{before, cut, option_of}
 
 after_twice : (ss ts : List Setting) (gs hs : List Group) (r : Result Tail UsageFault) → tail_after ss gs (tail_after ts hs r) ≡ tail_after (ss ++ ts) (gs ++ hs) r

@@ -1,8 +1,7 @@
 -- What each option of a line gives, and its faults from left to right.
-use Rattle.std.specs.Prelude.{◌≡◌, ◌⊎◌, ℕ, Bool, List, [], ◌∷◌, if◌then◌else◌, Option, None, Some, is_some, Result, Ok, Err, encode_utf8_all}
-use Rattle.std.specs.Borrow.{Bor}
+use Rattle.std.specs.Prelude.{ℕ, Bool, List, [], ◌∷◌, if◌then◌else◌, Option, None, Some, is_some, Result, Ok, Err, encode_utf8_all}
 use Rattle.arg_table.specs.declared.fault.UsageFault.{UsageFault}
-use Rattle.arg_table.specs.declared.fault.UsageFault.TheVariants.{MissingValue, UnknownArgument, ExtraWord, BadChoice, BadCount, OutOfMemory}
+use Rattle.arg_table.specs.declared.fault.UsageFault.TheVariants.{MissingValue, UnknownArgument, ExtraWord, BadChoice, BadCount}
 use Rattle.arg_table.specs.declared.given.Given.{Given}
 use Rattle.arg_table.specs.declared.given.Given.TheVariants as given
 use Rattle.arg_table.specs.declared.meaning.Meaning.{Meaning}
@@ -76,8 +75,3 @@ given_in table waits (g ∷ gs) = do
   first ← given_as g (meaning_of table waits g.option)
   others ← given_in table waits gs
   Ok (first ∷ others)
-
--- the first value of an option is found, and the words behind it; it is missing where there is none
-abbrev pub IsFirst : Group → Result (Bor (List ℕ) × Bor (List (List ℕ))) UsageFault → Type 0
-IsFirst g (Ok r) = values_of g ≡ r.0.now ∷ r.1.now
-IsFirst g (Err e) = (e ≡ OutOfMemory) ⊎ ((values_of g ≡ []) × (e ≡ MissingValue g.option))

@@ -6,5 +6,6 @@ pub mod Tables
 pub mod Given
 pub mod Lines
 pub mod FaultText
-pub mod Steps
+pub mod Faults
+pub mod Inside
 pub mod Laws

@@ -1,5 +1,5 @@
 -- A command's line against the table of its operation.
-use Rattle.std.specs.Prelude.{◌≡◌, ℕ, Bool, false, not, ◌&&◌, ◌||◌, ◌==◌, List, [], ◌∷◌, if◌then◌else◌, map, filter, fold, slice_get, Option, None, Some, is_some, Result, Ok, Err, codes}
+use Rattle.std.specs.Prelude.{ℕ, Bool, false, not, ◌&&◌, ◌||◌, ◌==◌, List, [], ◌∷◌, if◌then◌else◌, map, filter, fold, slice_get, Option, None, Some, is_some, Result, Ok, Err, codes}
 use Rattle.std.specs.List.{list_any}
 use Rattle.std.specs.Option.{option_map_or}
 use Rattle.arg_table.specs.declared.fault.UsageFault.{UsageFault}
@@ -8,7 +8,6 @@ use Rattle.arg_table.specs.declared.given.Given.{Given}
 use Rattle.arg_table.specs.declared.given.Given.TheVariants.{Argument, InputJson, StartingToken, MaxItems, PageSize}
 use Rattle.arg_table.specs.declared.command.CommandHead.{CommandHead}
 use Rattle.arg_table.specs.declared.lines.Arg.{Arg}
-use Rattle.arg_table.specs.declared.lines.Gathered.{Gathered}
 use Rattle.arg_table.specs.declared.lines.Line.{Line}
 use Rattle.arg_table.specs.declared.table.ArgTable.{ArgTable}
 use Rattle.texts.specs.Calls.{◌>>=◌}
@@ -60,9 +59,6 @@ conflict_of table paginate givens line = if has_conflict table paginate line the
 -- the members of a line's arguments, in their order
 abbrev pub members_of : List Arg → List ℕ
 members_of args = map (λ arg. arg.member) args
-
-abbrev pub IsGathered : Gathered → Type 0
-IsGathered gathered = gathered.members.keys ≡ members_of gathered.line.args
 
 abbrev pub is_given : List Arg → ℕ → Bool
 is_given args member = list_any (λ arg. member == arg.member) args

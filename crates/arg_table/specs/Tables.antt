@@ -1,9 +1,7 @@
 -- What the options of an operation are: an argument for each member of its input, in the model's order, and
 -- the options of its own.
-use Rattle.std.specs.Prelude.{◌≡◌, ℕ, nat_eq, Bool, true, false, not, ◌&&◌, List, [], ◌∷◌, ◌++◌, if◌then◌else◌, map, slice_get, Option, None, Some, option_to_list, option_map, option_and_then, is_some, bytes_eq, codes}
+use Rattle.std.specs.Prelude.{ℕ, Bool, true, false, not, ◌&&◌, List, [], ◌∷◌, ◌++◌, if◌then◌else◌, map, slice_get, Option, None, Some, option_to_list, option_map, option_and_then, is_some, bytes_eq, codes}
 use Rattle.std.specs.List.{list_any, enumerate_from}
-use Rattle.std.specs.Cmp.Lexicographic.{pointwise}
-use Rattle.indexmap.specs.IndexMap.{IndexMap, get}
 use Rattle.model_files.specs.declared.paginators.PagerRow.{PagerRow}
 use Rattle.model_files.specs.Names.{command_name}
 use Rattle.service_model.specs.declared.operation.Operation.{Operation}
@@ -101,12 +99,3 @@ or_argument None arguments name =
 -- what a name means in the line of an operation: a waiter has no options for pages
 abbrev pub meaning_of : ArgTable → Bool → List ℕ → Option Meaning
 meaning_of table waits name = or_argument (option_named (if waits then Never else table.paging) name) table.arguments name
-
--- what was meant before, or else this
-abbrev pub or_meant : Option Meant → Option Meant → Option Meant
-or_meant (Some m) other = Some m
-or_meant None other = other
-
--- a table of names tells what each name means
-abbrev pub IsNamed : {S : Type 0} → List Argument → IndexMap (List ℕ) Meant S → Type 0
-IsNamed arguments names = (name : List ℕ) → get (pointwise nat_eq) names name ≡ argument_named arguments name

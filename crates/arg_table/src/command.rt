@@ -1,9 +1,9 @@
 //! A line as a command with its settings.
 ghost use Rattle.std.specs.Prelude.{◌≡◌, ◌++◌, [], OnOk, IfOk};
-ghost use Rattle.arg_table.specs.declared.fault.UsageFault.TheVariants as fault;
 ghost use Rattle.arg_table.specs.Heads.{head_of, head_with, is_wait, named_by, next_word, tail_of};
-ghost use Rattle.arg_table.specs.Steps.{TakesGroup, next_after, tail_after};
+ghost use Rattle.arg_table.specs.Inside.{TakesGroup, next_after, tail_after};
 ghost use Rattle.arg_table.specs.Words.{cut};
+ghost use Rattle.arg_table.specs.Faults.{is_memory};
 ghost use Rattle.texts.specs.Calls.{Answers};
 
 use crate::settings::{Setting, take_setting};
@@ -33,7 +33,7 @@ pub struct CommandHead {
 /// or `wait` and the name of a waiter for the operation. The first fault from the left is answered.
 #[tactic(auto, unfolding(crate::specs::Heads::head_of))]
 pub fn head(alloc: Global, words: &List<Text>) -> Result<CommandHead, UsageFault>
-    ensures { Answers fault.OutOfMemory (λ made. made) result (head_of words.now) }
+    ensures { Answers is_memory (λ made. made) result (head_of words.now) }
 {
     let mut settings = Vec::new(alloc);
     let (service, behind) = next_word(alloc, &mut settings, words.as_slice())?;
@@ -52,7 +52,7 @@ fn next_word<'a>(
     settings: &mut Vec<Setting>,
     words: &'a [Text],
 ) -> Result<(&'a Text, &'a [Text]), UsageFault>
-    ensures { Answers fault.OutOfMemory (λ next. record { settings = settings.new.items; word = next.0.now; behind = cut next.1.now })
+    ensures { Answers is_memory (λ next. record { settings = settings.new.items; word = next.0.now; behind = cut next.1.now })
         result (next_after settings.old.items (next_word (cut words.entry.now))) }
 {
     let mut left = words;
@@ -82,7 +82,7 @@ fn named_by<'a>(
     operation: &'a Text,
     behind: &'a [Text],
 ) -> Result<(&'a Text, &'a [Text]), UsageFault>
-    ensures { Answers fault.OutOfMemory (λ next. record { settings = settings.new.items; word = next.0.now; behind = cut next.1.now })
+    ensures { Answers is_memory (λ next. record { settings = settings.new.items; word = next.0.now; behind = cut next.1.now })
         result (named_by (record { settings = settings.old.items; word = operation.entry.now; behind = cut behind.entry.now })) }
 {
     if is_wait(operation) {
@@ -97,7 +97,7 @@ fn read_tail(
     settings: &mut Vec<Setting>,
     words: &[Text],
 ) -> Result<List<Group>, UsageFault>
-    ensures { Answers fault.OutOfMemory (λ groups. record { settings = settings.new.items; groups = groups })
+    ensures { Answers is_memory (λ groups. record { settings = settings.new.items; groups = groups })
         result (tail_after settings.old.items [] (tail_of (cut words.now))) }
 {
     let mut groups = List::new(alloc);

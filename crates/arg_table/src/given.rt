@@ -1,8 +1,9 @@
 //! What each option of a line gives.
 ghost use Rattle.std.specs.Prelude.{◌≡◌, ◌∷◌, [], Ok, IfOk};
-ghost use Rattle.arg_table.specs.declared.fault.UsageFault.TheVariants as fault;
 ghost use Rattle.arg_table.specs.declared.table.Takes.TheVariants as takes;
-ghost use Rattle.arg_table.specs.Given.{no_more, sole, sole_count, words_of, listed, given_as, given_in, IsFirst};
+ghost use Rattle.arg_table.specs.Given.{no_more, sole, sole_count, words_of, listed, given_as, given_in};
+ghost use Rattle.arg_table.specs.Inside.{IsFirst};
+ghost use Rattle.arg_table.specs.Faults.{is_memory};
 ghost use Rattle.texts.specs.Calls.{Answers};
 
 use crate::command::copies;
@@ -37,7 +38,7 @@ pub fn given_in(
     waits: bool,
     groups: &[Group],
 ) -> Result<Vec<Given>, UsageFault>
-    ensures { Answers fault.OutOfMemory (λ made. made.items) result (given_in table.now waits groups.now) }
+    ensures { Answers is_memory (λ made. made.items) result (given_in table.now waits groups.now) }
 {
     let names = names_of(alloc, table.arguments.as_slice())?;
     let mut made = Vec::with_capacity(alloc, groups.len())?;
@@ -50,7 +51,7 @@ pub fn given_in(
 
 /// What an option with this meaning gives.
 fn given_as(alloc: Global, group: &Group, meaning: Option<Meaning>) -> Result<Given, UsageFault>
-    ensures { Answers fault.OutOfMemory (λ given. given) result (given_as group.now meaning) }
+    ensures { Answers is_memory (λ given. given) result (given_as group.now meaning) }
 {
     match meaning {
         None => Err(UsageFault::UnknownArgument(group.option.copy(alloc)?)),
@@ -63,7 +64,7 @@ fn given_as(alloc: Global, group: &Group, meaning: Option<Meaning>) -> Result<Gi
 }
 
 fn arg_of(alloc: Global, group: &Group, meant: Meant) -> Result<Arg, UsageFault>
-    ensures words { Answers fault.OutOfMemory (λ arg. arg.words) result (words_of meant.takes group.now) }
+    ensures words { Answers is_memory (λ arg. arg.words) result (words_of meant.takes group.now) }
     ensures same { IfOk result (λ arg. (arg.member ≡ meant.member) × (arg.no ≡ meant.no)) }
 {
     let words = words_of(alloc, group, meant.takes)?;
@@ -76,7 +77,7 @@ fn arg_of(alloc: Global, group: &Group, meant: Meant) -> Result<Arg, UsageFault>
 
 /// The words of an argument.
 fn words_of(alloc: Global, group: &Group, takes: Takes) -> Result<List<Text>, UsageFault>
-    ensures { Answers fault.OutOfMemory (λ words. words) result (words_of takes group.now) }
+    ensures { Answers is_memory (λ words. words) result (words_of takes group.now) }
 {
     match takes {
         Takes::NoValue => no_values(alloc, group),
@@ -87,7 +88,7 @@ fn words_of(alloc: Global, group: &Group, takes: Takes) -> Result<List<Text>, Us
 
 /// No words: a flag takes none.
 fn no_values(alloc: Global, group: &Group) -> Result<List<Text>, UsageFault>
-    ensures { Answers fault.OutOfMemory (λ words. words) result (words_of takes.NoValue group.now) }
+    ensures { Answers is_memory (λ words. words) result (words_of takes.NoValue group.now) }
 {
     if group.joined.is_some() {
         return Err(UsageFault::BadChoice(group.option.copy(alloc)?));
@@ -98,7 +99,7 @@ fn no_values(alloc: Global, group: &Group) -> Result<List<Text>, UsageFault>
 
 /// Any number of words, or one joined value.
 fn listed(alloc: Global, group: &Group) -> Result<List<Text>, UsageFault>
-    ensures { Answers fault.OutOfMemory (λ words. words) result (listed group.now.joined group.now.words) }
+    ensures { Answers is_memory (λ words. words) result (listed group.now.joined group.now.words) }
 {
     let Some(value) = &group.joined else {
         return Ok(copies(alloc, group.words.as_slice())?);
@@ -117,7 +118,7 @@ fn list_of(alloc: Global, text: Text) -> Result<List<Text>, OutOfMemory>
 
 /// The one value of an option.
 fn sole_text(alloc: Global, group: &Group) -> Result<Text, UsageFault>
-    ensures { Answers fault.OutOfMemory (λ text. text) result (sole Ok group.now) }
+    ensures { Answers is_memory (λ text. text) result (sole Ok group.now) }
 {
     let (value, left) = first_value(alloc, group)?;
     no_more(alloc, left)?;
@@ -126,7 +127,7 @@ fn sole_text(alloc: Global, group: &Group) -> Result<Text, UsageFault>
 
 /// The one value of an option, as a count in a range.
 fn sole_count(alloc: Global, group: &Group, least: u64, most: u64) -> Result<u64, UsageFault>
-    ensures { Answers fault.OutOfMemory (λ count. count) result (sole_count least most group.now) }
+    ensures { Answers is_memory (λ count. count) result (sole_count least most group.now) }
 {
     let (value, left) = first_value(alloc, group)?;
     let Some(count) = count_of(value.as_str(), least, most) else {
@@ -152,7 +153,7 @@ fn first_value(alloc: Global, group: &Group) -> Result<(&Text, &[Text]), UsageFa
 
 /// Refuses a further word.
 fn no_more(alloc: Global, words: &[Text]) -> Result<(), UsageFault>
-    ensures { Answers fault.OutOfMemory (λ x. x) result (no_more words.now tt) }
+    ensures { Answers is_memory (λ x. x) result (no_more words.now tt) }
 {
     match words.first() {
         Some(word) => Err(UsageFault::ExtraWord(word.copy(alloc)?)),

@@ -3,8 +3,9 @@ ghost use Rattle.std.specs.Prelude.{◌≡◌, if◌then◌else◌, None, OnOk, 
 ghost use Rattle.std.specs.List.{list_any};
 ghost use Rattle.std.specs.Option.{option_copied};
 ghost use Rattle.std.specs.Str.{chars};
-ghost use Rattle.arg_table.specs.declared.fault.UsageFault.TheVariants as fault;
-ghost use Rattle.arg_table.specs.Lines.{line_of, line_from, with_given, put_arg, paging_name, first_paging, is_paged, missing_of, members_of, is_given, has_conflict, no_conflict, no_missing, IsGathered};
+ghost use Rattle.arg_table.specs.Lines.{line_of, line_from, with_given, put_arg, paging_name, first_paging, is_paged, missing_of, members_of, is_given, has_conflict, no_conflict, no_missing};
+ghost use Rattle.arg_table.specs.Inside.{IsGathered};
+ghost use Rattle.arg_table.specs.Faults.{is_memory};
 ghost use Rattle.texts.specs.Calls.{Answers};
 
 use crate::given::{Given, given_in};
@@ -43,7 +44,7 @@ impl ArgTable {
     /// then options for pages that don't go with the others, then the arguments that are missing.
     #[tactic(auto, unfolding(crate::specs::Lines::line_of))]
     pub fn split(&self, alloc: Global, head: &CommandHead) -> Result<Line, UsageFault>
-        ensures { Answers fault.OutOfMemory (λ line. line) result (line_of self.now head.now) }
+        ensures { Answers is_memory (λ line. line) result (line_of self.now head.now) }
     {
         let given = given_in(alloc, self, head.wait, head.tail.as_slice())?;
         let option = first_paging(given.as_slice());
@@ -61,7 +62,7 @@ impl ArgTable {
         option: Option<&str>,
         line: &Line,
     ) -> Result<(), UsageFault>
-        ensures { Answers fault.OutOfMemory (λ x. x) result (no_conflict (if has_conflict self.now paginate line.now then option_map chars (option_copied option.entry) else None)) }
+        ensures { Answers is_memory (λ x. x) result (no_conflict (if has_conflict self.now paginate line.now then option_map chars (option_copied option.entry) else None)) }
     {
         let Some(option) = option else {
             return Ok(());
@@ -104,7 +105,7 @@ impl ArgTable {
     /// Refuses a line without the arguments that are needed.
     fn refuse_missing(&self, alloc: Global, gathered: &Gathered) -> Result<(), UsageFault>
         requires { IsGathered gathered.now }
-        ensures { Answers fault.OutOfMemory (λ x. x) result (no_missing (missing_of self.now gathered.now.line)) }
+        ensures { Answers is_memory (λ x. x) result (no_missing (missing_of self.now gathered.now.line)) }
     {
         let missing = self.missing(alloc, gathered)?;
         if missing.is_empty() {

@@ -3,7 +3,8 @@ ghost use Rattle.std.specs.Prelude.{◌≡◌, ◌∷◌, [], ℕ, List as Seq, 
 ghost use Rattle.std.specs.Cmp.Lexicographic.{pointwise};
 ghost use Rattle.indexmap.specs.IndexMap.{get};
 ghost use Rattle.service_model.specs.Arguments.{negation_of};
-ghost use Rattle.arg_table.specs.Tables.{paging_named, option_named, argument_named, is_flag, meant_by, meaning_of, or_meant, IsNamed};
+ghost use Rattle.arg_table.specs.Tables.{paging_named, option_named, argument_named, is_flag, meant_by, meaning_of};
+ghost use Rattle.arg_table.specs.Inside.{IsNamed, or_meant};
 
 use crate::ArgTable;
 use crate::settings::is_setting;

@@ -1,8 +1,8 @@
 //! The settings options of a line.
 ghost use Rattle.std.specs.Prelude.{◌≡◌, IfOk};
-ghost use Rattle.arg_table.specs.declared.fault.UsageFault.TheVariants as fault;
 ghost use Rattle.arg_table.specs.Settings.{takes_value, flag_named, is_setting, is_format, valued};
-ghost use Rattle.arg_table.specs.Steps.{TakesValue, TakesSetting};
+ghost use Rattle.arg_table.specs.Inside.{TakesValue, TakesSetting};
+ghost use Rattle.arg_table.specs.Faults.{is_memory};
 ghost use Rattle.texts.specs.Calls.{Answers};
 
 use crate::UsageFault;
@@ -91,7 +91,7 @@ fn take_value<'a>(
 
 /// An option with its value; that of `--output` is the name of a format.
 fn valued(alloc: Global, name: &Text, value: Text) -> Result<Setting, UsageFault>
-    ensures { Answers fault.OutOfMemory (λ setting. setting) result (valued name.now value) }
+    ensures { Answers is_memory (λ setting. setting) result (valued name.now value) }
 {
     if name.is("output") && !is_format(&value) {
         return Err(UsageFault::BadChoice(name.copy(alloc)?));

@@ -1,11 +1,12 @@
 //! Each setting from the first layer that has a value: the line, the environment, the profile.
-ghost use Rattle.std.specs.Prelude.{◌≡◌, ◌⊎◌, None, IfOk, IsTrue};
+ghost use Rattle.std.specs.Prelude.{◌≡◌, None, IfOk, IsTrue};
 ghost use Rattle.std.specs.Option.{option_copied};
 ghost use Rattle.std.specs.Str.{chars};
 ghost use Rattle.config_file.specs.declared.fault.ConfigFault.TheVariants as fault;
 ghost use Rattle.config_file.specs.Settings.{named_profile, known_profile, output_of, both_keys, env_keys, file_keys, keys_for, attempts_of, flag_of, gateway_of, settings_for};
 ghost use Rattle.texts.specs.Ascii.{is_ascii_text};
-ghost use Rattle.texts.specs.Calls.{Answers};
+ghost use Rattle.config_file.specs.Faults.{is_memory};
+ghost use Rattle.texts.specs.Calls.{Answers, Unless};
 
 use crate::named::{option, set_value, value, variable};
 use crate::values::{flag_in, number_up_to, output_named, target_in};
@@ -30,7 +31,7 @@ pub fn profile<'a>(
     env: &'a Env,
     profiles: &Profiles,
 ) -> Result<&'a str, ConfigFault>
-    ensures { Answers fault.OutOfMemory (λ profile. chars profile.now) result
+    ensures { Answers is_memory (λ profile. chars profile.now) result
         (known_profile profiles.now (named_profile line.now env.now.pairs)) }
 {
     let Some(name) = option(line, "profile").or(variable(env, "AWS_PROFILE")) else {
@@ -51,7 +52,7 @@ pub fn for_profile(
     profiles: &Profiles,
     profile: &str,
 ) -> Result<Settings, ConfigFault>
-    ensures { Answers fault.OutOfMemory (λ settings. settings) result
+    ensures { Answers is_memory (λ settings. settings) result
         (settings_for line.now env.now.pairs profiles.now (chars profile.now)) }
 {
     let output = output(alloc, line, env, profiles, profile)?;
@@ -92,7 +93,7 @@ fn output(
     profiles: &Profiles,
     profile: &str,
 ) -> Result<Output, ConfigFault>
-    ensures { Answers fault.OutOfMemory (λ output. output) result
+    ensures { Answers is_memory (λ output. output) result
         (output_of line.now env.now.pairs profiles.now (chars profile.now)) }
 {
     let Some(name) = option(line, "output")
@@ -113,7 +114,7 @@ fn attempts(
     profiles: &Profiles,
     profile: &str,
 ) -> Result<u32, ConfigFault>
-    ensures { Answers fault.OutOfMemory (λ attempts. attempts) result
+    ensures { Answers is_memory (λ attempts. attempts) result
         (attempts_of env.now.pairs profiles.now (chars profile.now)) }
 {
     let Some(number) = variable(env, "AWS_MAX_ATTEMPTS").or(value(
@@ -137,7 +138,7 @@ fn flag(
     value: Option<&Text>,
 ) -> Result<bool, ConfigFault>
     requires { IsTrue (is_ascii_text setting.now) }
-    ensures { Answers fault.OutOfMemory (λ flag. flag) result
+    ensures { Answers is_memory (λ flag. flag) result
         (flag_of setting.now (option_copied variable.entry) (option_copied value.entry)) }
 {
     let Some(text) = variable.or(value) else {
@@ -150,7 +151,7 @@ fn flag(
 }
 
 fn gateway(alloc: Global, env: &Env) -> Result<Option<Target>, ConfigFault>
-    ensures { Answers fault.OutOfMemory (λ gateway. gateway) result (gateway_of env.now.pairs) }
+    ensures { Answers is_memory (λ gateway. gateway) result (gateway_of env.now.pairs) }
 {
     let Some(address) = variable(env, "AWS_PLAIN_GATEWAY") else {
         return Ok(None);
@@ -243,7 +244,7 @@ fn copied(alloc: Global, text: Option<&Text>) -> Result<Option<Text>, OutOfMemor
 #[tactic(auto, using(texts::proofs::Texts::chars_ascii))]
 fn bad_setting(alloc: Global, setting: &str) -> ConfigFault
     requires { IsTrue (is_ascii_text setting.now) }
-    ensures { (result ≡ fault.OutOfMemory) ⊎ (result ≡ fault.BadSetting setting.now) }
+    ensures { Unless (is_memory result) (result ≡ fault.BadSetting setting.now) }
 {
     match Text::from_str(alloc, setting) {
         Ok(setting) => ConfigFault::BadSetting(setting),

@@ -1,9 +1,9 @@
 ghost use Rattle.std.specs.Prelude.{◌≡◌};
 ghost use Rattle.std.specs.Option.{option_copied};
 ghost use Rattle.std.specs.Str.{chars};
-ghost use Rattle.config_file.specs.declared.fault.ConfigFault.TheVariants as fault;
 ghost use Rattle.config_file.specs.Files.{profiles_of};
 ghost use Rattle.config_file.specs.Lookups.{has_profile, value_at};
+ghost use Rattle.config_file.specs.Faults.{is_memory};
 ghost use Rattle.texts.specs.Calls.{Answers};
 
 use crate::lookups::{is_in, value_in};
@@ -36,7 +36,7 @@ impl Profiles {
     /// Reads the bytes of the two settings files, or answers the first faulty line; that of the config
     /// file comes first. A file that isn't there is read as an empty one.
     pub fn read(alloc: Global, config: &[u8], credentials: &[u8]) -> Result<Profiles, ConfigFault>
-        ensures { Answers fault.OutOfMemory (λ profiles. profiles) result (profiles_of config.now credentials.now) }
+        ensures { Answers is_memory (λ profiles. profiles) result (profiles_of config.now credentials.now) }
     {
         let config = sections(alloc, FileKind::Config, config)?;
         let credentials = sections(alloc, FileKind::Credentials, credentials)?;

@@ -1,12 +1,12 @@
 //! The reading of a settings file, line by line.
-ghost use Rattle.std.specs.Prelude.{◌≡◌, None, ◌<◌, ◌+◌, ◌^◌, ◌⊎◌, ℕ, List, [], ◌∷◌, Ok, Err, IfOk, IfErr, OnOk, MatchOption, length, nat_eq, position};
+ghost use Rattle.std.specs.Prelude.{◌≡◌, None, ◌<◌, ◌+◌, ◌^◌, ℕ, List, [], ◌∷◌, Ok, Err, IfOk, IfErr, OnOk, MatchOption, length, nat_eq, position};
 ghost use Rattle.std.specs.Str.Lines.{lines, strip_carriage_return};
-ghost use Rattle.config_file.specs.declared.fault.ConfigFault.TheVariants as fault;
 ghost use Rattle.config_file.specs.declared.line.Place.TheVariants as place;
 ghost use Rattle.config_file.specs.Files.{Part, with_line, sections_of};
 ghost use Rattle.config_file.specs.Reading.{no_part, completed, due};
 ghost use Rattle.config_file.specs.Lines.{place_behind};
-ghost use Rattle.texts.specs.Calls.{Answers};
+ghost use Rattle.config_file.specs.Faults.{is_memory};
+ghost use Rattle.texts.specs.Calls.{Answers, Unless};
 
 use crate::line::{Line, Place, line_of};
 use crate::{ConfigFault, FileKind, MOST_FILE_BYTES, Section};
@@ -15,7 +15,7 @@ use texts::{List, OutOfMemory, Text};
 
 /// The sections of a file.
 pub fn sections(alloc: Global, kind: FileKind, file: &[u8]) -> Result<List<Section>, ConfigFault>
-    ensures { Answers fault.OutOfMemory (λ sections. sections) result (sections_of kind file.now) }
+    ensures { Answers is_memory (λ sections. sections) result (sections_of kind file.now) }
 {
     if file.len() > MOST_FILE_BYTES {
         return Err(ConfigFault::Syntax(kind, 0));
@@ -95,8 +95,8 @@ impl Reading {
         requires { self.old.number + 1 < 2 ^ 64 }
         ensures number { OnOk result (self.new.number ≡ self.old.number + 1) }
         ensures ok { OnOk result ((more : List (List ℕ)) → due self.old (bytes.now ∷ more) ≡ due self.new more) }
-        ensures err { IfErr result (λ e. (e ≡ fault.OutOfMemory)
-            ⊎ ((more : List (List ℕ)) → due self.old (bytes.now ∷ more) ≡ Err e)) }
+        ensures err { IfErr result (λ e. Unless (is_memory e)
+            ((more : List (List ℕ)) → due self.old (bytes.now ∷ more) ≡ Err e)) }
     {
         let number = self.number;
         match line_of(alloc, self.kind, self.place, bytes)? {

@@ -1,6 +1,6 @@
 ghost use Rattle.std.specs.Prelude.{◌≡◌};
-ghost use Rattle.config_file.specs.declared.fault.ConfigFault.TheVariants as fault;
 ghost use Rattle.config_file.specs.Settings.{settings_of};
+ghost use Rattle.config_file.specs.Faults.{is_memory};
 ghost use Rattle.texts.specs.Calls.{Answers};
 
 use crate::layers::{for_profile, profile};
@@ -51,7 +51,7 @@ impl Settings {
         env: &Env,
         profiles: &Profiles,
     ) -> Result<Settings, ConfigFault>
-        ensures { Answers fault.OutOfMemory (λ settings. settings) result
+        ensures { Answers is_memory (λ settings. settings) result
             (settings_of pairs.now env.now.pairs profiles.now) }
     {
         let line = pairs.as_slice();

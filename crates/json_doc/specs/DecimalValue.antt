@@ -1,5 +1,5 @@
 -- Decimal fractions by their values, as whole numbers over a denominator that they share.
-use Rattle.std.specs.Prelude.{◌≡◌, ℕ, ◌+◌, ◌*◌, ◌^◌, Bool, if◌then◌else◌, ℤ, pos, neg_ℤ, ◌+ℤ◌}
+use Rattle.std.specs.Prelude.{◌≡◌, ℕ, ◌+◌, ◌*◌, ◌^◌, ◌==◌, ◌&&◌, nat_lt, Bool, if◌then◌else◌, Option, None, Some, ℤ, pos, neg_ℤ, ◌+ℤ◌}
 use Rattle.std.specs.declared.cmp.Ordering.{Ordering}
 use Rattle.std.specs.Ordering.{int_cmp}
 use Rattle.json_doc.specs.declared.decimal.Decimal.{Decimal}
@@ -7,6 +7,12 @@ use Rattle.json_doc.specs.declared.decimal.Decimal.{Decimal}
 -- a whole number of this size, perhaps negative
 abbrev pub signed : Bool → ℕ → ℤ
 signed is_negative size = if is_negative then neg_ℤ (pos size) else pos size
+
+-- the whole number of 64 bits that a decimal without places is, where it is one
+abbrev pub whole : Decimal → Option ℤ
+whole n =
+    if n.scale == 0 && nat_lt n.magnitude (if n.is_negative then 2 ^ 63 + 1 else 2 ^ 63)
+    then Some (signed n.is_negative n.magnitude) else None
 
 -- the numerator over the denominator 10^(scale + places)
 abbrev pub numerator : Decimal → ℕ → ℤ

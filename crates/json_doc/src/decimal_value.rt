@@ -1,6 +1,6 @@
 ghost use Rattle.std.specs.Prelude.{◌≡◌, ◌<◌, ◌≤◌, ◌+◌, ◌*◌, ◌^◌};
 ghost use Rattle.std.specs.Ordering.{nat_cmp};
-ghost use Rattle.json_doc.specs.DecimalValue.{signed, value_cmp};
+ghost use Rattle.json_doc.specs.DecimalValue.{signed, value_cmp, whole};
 
 use crate::Decimal;
 use crate::powers::{MOST_PLACES, ten_to};
@@ -17,6 +17,22 @@ impl Decimal {
             magnitude: u128::from(n.unsigned_abs()),
             scale: 0,
         }
+    }
+
+    /// The whole number of 64 bits that this is, where its scale is 0 and it is one.
+    pub fn whole(&self) -> Option<i64>
+        ensures { result ≡ whole self.now }
+    {
+        if self.scale != 0 {
+            return None;
+        }
+        let magnitude = i128::try_from(self.magnitude).ok()?;
+        let value = if self.is_negative {
+            -magnitude
+        } else {
+            magnitude
+        };
+        i64::try_from(value).ok()
     }
 
     /// The order by value.

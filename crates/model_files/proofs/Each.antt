@@ -5,8 +5,12 @@ use Rattle.std.specs.Fmt.{decimal}
 use Rattle.texts.specs.declared.pairs.Pair.{Pair}
 use Rattle.model_files.specs.declared.fault.ModelFault.{ModelFault}
 use Rattle.model_files.specs.declared.fault.ModelFault.TheVariants.{Missing, UnknownShape, WrongKind, Collides, OutOfMemory}
-use Rattle.model_files.specs.Faults.{moved, inside, each, each_from, IsFault, Fails, Gives}
-use Rattle.texts.specs.Calls.{◌>>=◌}
+use Rattle.model_files.specs.Faults.{moved, inside, each, each_from, IsFault, is_memory}
+use Rattle.texts.specs.Calls.{◌>>=◌, Unless, Answers}
+
+-- a call that fails does so for the fault that is due, or for want of memory
+abbrev pub Fails : {A : Type 0} → ModelFault → Result A ModelFault → Type 0
+Fails fault due = Unless (is_memory fault) (due ≡ Err fault)
 
 -- what is read, behind what was read before
 abbrev pub with_front : {B : Type 0} → List B → Result (List B) ModelFault → Result (List B) ModelFault
@@ -73,7 +77,7 @@ no_fault (Collides p) x fails k = absurd (cc)
 
 -- what stands at the key was read as is due, so it is as is due of the whole
 pub gives_inside : {T U : Type 0} (view : T → U) (key : List ℕ) (due : Result U ModelFault) (read result : Result T ModelFault)
-    → Gives view due read → Gives (λ x. x) (inside key read) result → Gives view (inside key due) result
+    → Answers is_memory view read due → Answers is_memory (λ x. x) result (inside key read) → Answers is_memory view result (inside key due)
 gives_inside view key due (Ok x) (Ok y) gives is = ap (inside key) gives ∙ ap (λ r. elim r [ Ok z ↦ Ok (view z) | Err f ↦ Err f ]) is
 gives_inside view key due (Ok x) (Err fault) gives is = no_fault fault x is (λ none. subst (λ f. Fails f (inside key due)) (sym none) tt)
 gives_inside view key due (Err inner) (Ok y) gives is = absurd (cc)
@@ -81,7 +85,7 @@ gives_inside view key due (Err inner) (Err outer) gives is = fails_moved key inn
 
 -- where what stands at the key was read well, it is what is due
 pub due_ok : {T U : Type 0} (view : T → U) (key : List ℕ) (due : Result U ModelFault) (read : Result T ModelFault) (y : T)
-    → Gives view due read → inside key read ≡ Ok y → due ≡ Ok (view y)
+    → Answers is_memory view read due → inside key read ≡ Ok y → due ≡ Ok (view y)
 due_ok view key due (Ok x) y gives is = let same : x ≡ y = cc in gives ∙ ap (λ z. Ok (view z)) same
 due_ok view key due (Err fault) y gives is = absurd (cc)
 

@@ -6,10 +6,10 @@ use Rattle.texts.specs.declared.pairs.Pair.{Pair}
 use Rattle.model_files.specs.declared.fault.ModelFault.{ModelFault}
 use Rattle.model_files.specs.declared.paginators.NamedRow.{NamedRow}
 use Rattle.model_files.specs.declared.paginators.PagerRow.{PagerRow}
-use Rattle.model_files.specs.Faults.{moved, inside, IsFault, Fails}
+use Rattle.model_files.specs.Faults.{moved, inside, IsFault}
 use Rattle.texts.specs.Calls.{◌>>=◌}
 use Rattle.model_files.specs.Paginators.{row_of, row_before, rows_of}
-use Rattle.model_files.proofs.Each.{with_front, one_more, fails_moved, fails_first, fails_in_front, fails_same}
+use Rattle.model_files.proofs.Each.{Fails, with_front, one_more, fails_moved, fails_first, fails_in_front, fails_same}
 
 same_rows : (due : Result (List NamedRow) ModelFault) → due >>= (λ others. Ok others) ≡ due
 same_rows (Err fault) = refl

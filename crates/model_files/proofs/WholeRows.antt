@@ -1,8 +1,8 @@
 -- What the rows of a file keep: tokens and results, and numbers in their limits.
-use Rattle.std.proofs.Common.{◌≡◌, T, ℕ, ◌<◌, ◌≤◌, ◌==◌, nat_eq, nat_le, not, ◌&&◌, if◌then◌else◌, Bool, true, false, List, [], ◌∷◌, length, Option, None, Some, IfSome, Result, Ok, Err, codes, refl, sym, ap, subst, arith, eqb-true, leb→le}
+use Rattle.std.proofs.Common.{◌≡◌, T, ℕ, ◌<◌, ◌≤◌, ◌==◌, nat_le, ◌&&◌, if◌then◌else◌, Bool, true, false, ℤ, pos, negsuc, List, [], ◌∷◌, length, Option, None, Some, IfSome, Result, Ok, codes, refl, sym, subst, arith, eqb-true, leb→le}
 use Rattle.std.specs.List.{All, AllByRecursion}
 use Rattle.std.proofs.lemmas.List.Elements.{All-from_recursion}
-use Rattle.json_doc.specs.declared.decimal.Decimal.{Decimal}
+use Rattle.json_doc.specs.DecimalValue.{whole}
 use Rattle.json_doc.specs.declared.doc.Doc.{Doc}
 use Rattle.json_doc.specs.declared.doc.Doc.TheOpen.{Doc-F}
 use Rattle.json_doc.specs.declared.doc.Doc.TheViews.{out-Doc}
@@ -22,7 +22,7 @@ use Rattle.model_files.specs.Reading.{Fields, fields_of, texts_of, needed, maybe
 use Rattle.model_files.specs.Paginators as pages
 use Rattle.model_files.specs.Paginators.{some_of, queries_in, queries_of, queries_at, maybe_queries, row_if, row_with, row_before, rows_of, paginators_of, IsPagerRow}
 use Rattle.model_files.specs.Waiters as waits
-use Rattle.model_files.specs.Waiters.{whole_number, whole_in, whole_between, number_at, delay_of, tries_of, acceptors_of, waiters_of, IsWaiterRow}
+use Rattle.model_files.specs.Waiters.{in_range, whole_in, whole_between, number_at, delay_of, tries_of, acceptors_of, waiters_of, IsWaiterRow}
 use Rattle.model_files.proofs.Steps.{same_ok, bind_ok, inside_ok, demand_ok, or_fault_ok, each_all}
 
 one_more : {A : Type 0} (x : A) (xs : List A) → 0 < length (x ∷ xs)
@@ -113,17 +113,18 @@ both : (a b : Bool) → (a && b) ≡ true → (a ≡ true) × (b ≡ true)
 both true b e = (refl, e)
 both false b e = absurd (cc)
 
-is_within : (least most : ℕ) (n : Decimal) (k : ℕ) → whole_number least most n ≡ Some k → (least ≤ k) × (k ≤ most)
-is_within least most n k e =
-    let found = if_some (nat_eq n.scale 0 && not n.is_negative && nat_le least n.magnitude && nat_le n.magnitude most) n.magnitude k e in
-    let above = both (nat_eq n.scale 0 && not n.is_negative && nat_le least n.magnitude) (nat_le n.magnitude most) found.0 in
-    let below = both (nat_eq n.scale 0 && not n.is_negative) (nat_le least n.magnitude) above.0 in
-    let low : least ≤ n.magnitude = leb→le least n.magnitude (subst T (sym below.1) tt) in
-    let high : n.magnitude ≤ most = leb→le n.magnitude most (subst T (sym above.1) tt) in
+is_within : (least most : ℕ) (o : Option ℤ) (k : ℕ) → in_range least most o ≡ Some k → (least ≤ k) × (k ≤ most)
+is_within least most (Some (pos n)) k e =
+    let found = if_some (nat_le least n && nat_le n most) n k e in
+    let limits = both (nat_le least n) (nat_le n most) found.0 in
+    let low : least ≤ n = leb→le least n (subst T (sym limits.0) tt) in
+    let high : n ≤ most = leb→le n most (subst T (sym limits.1) tt) in
     (omega (arith, low, found.1), omega (arith, high, found.1))
+is_within least most (Some (negsuc n)) k e = absurd (cc)
+is_within least most None k e = absurd (cc)
 
 within_in : (least most : ℕ) (v : Doc-F Doc) (k : ℕ) → whole_in least most v ≡ Some k → (least ≤ k) × (k ≤ most)
-within_in least most (Doc-F.Number n) k e = is_within least most n k e
+within_in least most (Doc-F.Number n) k e = is_within least most (whole n) k e
 within_in least most (Doc-F.Str t) k e = absurd (cc)
 within_in least most Doc-F.Null k e = absurd (cc)
 within_in least most (Doc-F.Flag b) k e = absurd (cc)

@@ -3,7 +3,7 @@
 use Rattle.std.specs.Prelude.{◌≡◌, ℕ, ◌+◌, Bool, true, false, List, [], ◌∷◌, ◌++◌, Option, None, Some, Result, Ok, Err}
 use Rattle.std.specs.Fmt.{decimal}
 use Rattle.texts.specs.declared.pairs.Pair.{Pair}
-use Rattle.texts.specs.Calls.{◌>>=◌}
+use Rattle.texts.specs.Calls.{◌>>=◌, Unless}
 use Rattle.model_files.specs.declared.fault.ModelFault.{ModelFault}
 use Rattle.model_files.specs.declared.fault.ModelFault.TheVariants.{Missing, UnknownShape, WrongKind, Collides, OutOfMemory}
 use Rattle.model_files.specs.declared.fault.Place.{Place}
@@ -53,26 +53,17 @@ each_from f at (x ∷ xs) = do
   others ← each_from f (at + 1) xs
   Ok (y ∷ others)
 
--- A call answers with a fault: this one, or want of memory, which is free.
+-- want of memory: it may come at any call
+abbrev pub is_memory : ModelFault → Bool
+is_memory OutOfMemory = true
+is_memory (Missing place) = false
+is_memory (UnknownShape place) = false
+is_memory (WrongKind place) = false
+is_memory (Collides place) = false
+
+-- A call answers with a fault: the one that is due, or want of memory, which is free.
 abbrev pub IsFault : ModelFault → ModelFault → Type 0
-IsFault OutOfMemory due = Unit {0}
-IsFault (Missing place) due = due ≡ Missing place
-IsFault (UnknownShape place) due = due ≡ UnknownShape place
-IsFault (WrongKind place) due = due ≡ WrongKind place
-IsFault (Collides place) due = due ≡ Collides place
-
--- A call that fails does so for the fault that is due, or for want of memory, which is free.
-abbrev pub Fails : {A : Type 0} → ModelFault → Result A ModelFault → Type 0
-Fails OutOfMemory due = Unit {0}
-Fails (Missing place) due = due ≡ Err (Missing place)
-Fails (UnknownShape place) due = due ≡ Err (UnknownShape place)
-Fails (WrongKind place) due = due ≡ Err (WrongKind place)
-Fails (Collides place) due = due ≡ Err (Collides place)
-
--- A call answers this, seen by a view: the value that is due, or the fault that is due.
-abbrev pub Gives : {T U : Type 0} → (T → U) → Result U ModelFault → Result T ModelFault → Type 0
-Gives view due (Ok x) = due ≡ Ok (view x)
-Gives view due (Err fault) = Fails fault due
+IsFault fault due = Unless (is_memory fault) (due ≡ fault)
 
 -- what comes under a condition, whose failing is a fault
 abbrev pub demand : {A : Type 0} → Bool → ModelFault → Result A ModelFault → Result A ModelFault

@@ -1,9 +1,9 @@
 -- The waiters of a service: botocore's `waiters-2.json`.
-use Rattle.std.specs.Prelude.{ℕ, ◌≤◌, Bool, true, false, not, ◌&&◌, nat_eq, nat_le, List, [], ◌∷◌, if◌then◌else◌, Option, None, Some, is_some, ◌||◌, Result, Ok, bytes_eq, codes}
-use Rattle.json_doc.specs.declared.decimal.Decimal.{Decimal}
+use Rattle.std.specs.Prelude.{ℕ, ◌≤◌, Bool, true, false, not, ◌&&◌, nat_le, List, [], ◌∷◌, if◌then◌else◌, ℤ, pos, negsuc, Option, None, Some, is_some, ◌||◌, Result, Ok, bytes_eq, codes}
 use Rattle.json_doc.specs.declared.doc.Doc.{Doc}
 use Rattle.json_doc.specs.declared.doc.Doc.TheOpen.{Doc-F}
 use Rattle.json_doc.specs.declared.doc.Doc.TheViews.{out-Doc}
+use Rattle.json_doc.specs.DecimalValue.{whole}
 use Rattle.texts.specs.declared.pairs.Pair.{Pair}
 use Rattle.model_files.specs.declared.fault.ModelFault.{ModelFault}
 use Rattle.model_files.specs.declared.fault.ModelFault.TheVariants.{Missing, WrongKind}
@@ -19,14 +19,14 @@ use Rattle.texts.specs.Calls.{◌>>=◌}
 use Rattle.model_files.specs.Names.{command_name}
 use Rattle.model_files.specs.Reading.{Fields, fields_of, object_at, text_at, items_at, needed, maybe_text}
 
--- a decimal that is a whole number in a range
-abbrev pub whole_number : ℕ → ℕ → Decimal → Option ℕ
-whole_number least most n =
-    if nat_eq n.scale 0 && not n.is_negative && nat_le least n.magnitude && nat_le n.magnitude most
-    then Some n.magnitude else None
+-- a number from the least to the most
+abbrev pub in_range : ℕ → ℕ → Option ℤ → Option ℕ
+in_range least most (Some (pos n)) = if nat_le least n && nat_le n most then Some n else None
+in_range least most (Some (negsuc n)) = None
+in_range least most None = None
 
 abbrev pub whole_in : ℕ → ℕ → Doc-F Doc → Option ℕ
-whole_in least most (Doc-F.Number n) = whole_number least most n
+whole_in least most (Doc-F.Number n) = in_range least most (whole n)
 whole_in least most _ = None
 
 -- a whole number in a range

@@ -1,8 +1,9 @@
 ghost use Rattle.std.specs.Prelude.{◌≡◌, IsTrue, IfOk, Some};
 ghost use Rattle.std.specs.Str.{chars};
 ghost use Rattle.texts.specs.Ascii.{is_ascii_text};
+ghost use Rattle.texts.specs.Calls.{Answers};
 ghost use Rattle.model_files.specs.declared.fault.ModelFault.TheVariants as fault;
-ghost use Rattle.model_files.specs.Faults.{below, moved, inside, IsFault, Gives};
+ghost use Rattle.model_files.specs.Faults.{below, moved, inside, IsFault, is_memory};
 ghost use Rattle.model_files.specs.FaultText.{place_text, place_bytes, fault_text};
 
 use json_doc::{OutOfMemory, Text};
@@ -100,8 +101,8 @@ impl<T: Drop> From<AllocFailed<T>> for ModelFault {
 /// What is read from what stands at the key, with its fault as one of the object that holds the
 /// key.
 pub fn inside<T>(alloc: Global, key: &str, read: Result<T, ModelFault>) -> Result<T, ModelFault>
-    ensures value { Gives (λ x. x) (inside (chars key.now) read) result }
-    ensures ascii { IsTrue (is_ascii_text key.now) → Gives (λ x. x) (inside key.now read) result }
+    ensures value { Answers is_memory (λ x. x) result (inside (chars key.now) read) }
+    ensures ascii { IsTrue (is_ascii_text key.now) → Answers is_memory (λ x. x) result (inside key.now read) }
 {
     match read {
         Ok(value) => Ok(value),

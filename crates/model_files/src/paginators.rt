@@ -2,7 +2,8 @@ ghost use Rattle.std.specs.Prelude.{◌≡◌, ◌==◌, ◌++◌, [], length, I
 ghost use Rattle.std.specs.Option.{option_copied};
 ghost use Rattle.std.specs.Str.{chars};
 ghost use Rattle.texts.specs.Ascii.{is_ascii_text};
-ghost use Rattle.model_files.specs.Faults.{Gives};
+ghost use Rattle.texts.specs.Calls.{Answers};
+ghost use Rattle.model_files.specs.Faults.{is_memory};
 ghost use Rattle.model_files.specs.Paginators.{queries_of, queries_at, maybe_queries, row_with, row_of, row_before, IsPagerRow, rows_of, paginators_of, row_named};
 
 use crate::ModelFault;
@@ -62,7 +63,7 @@ impl Paginators {
     /// Reads the rows from their document.
     #[tactic(auto, using(crate::proofs::Each::gives_inside), unfolding(crate::specs::Paginators::paginators_of))]
     pub fn read(alloc: Global, doc: &Doc) -> Result<Paginators, ModelFault>
-        ensures { Gives (λ rows. rows) (paginators_of doc.now) result }
+        ensures { Answers is_memory (λ rows. rows) result (paginators_of doc.now) }
     {
         let fields = object(doc)?;
         let pairs = object_at(alloc, fields, "pagination")?;
@@ -92,7 +93,7 @@ impl Paginators {
 }
 
 fn read_rows(alloc: Global, pairs: &Pairs<Doc>) -> Result<List<NamedRow>, ModelFault>
-    ensures { Gives (λ rows. rows) (rows_of pairs.now) result }
+    ensures { Answers is_memory (λ rows. rows) result (rows_of pairs.now) }
 {
     let mut rows = List::new(alloc);
     for pair in pairs.as_slice() {
@@ -123,7 +124,7 @@ fn push_row(
 /// A row; one without results is none, but its other fields are judged.
 #[tactic(auto, unfolding(crate::specs::Paginators::row_of))]
 fn read_row(alloc: Global, doc: &Doc) -> Result<Option<PagerRow>, ModelFault>
-    ensures { Gives (λ row. row) (row_of doc.now) result }
+    ensures { Answers is_memory (λ row. row) result (row_of doc.now) }
 {
     let fields = object(doc)?;
     let inputs = read_queries(alloc, fields, "input_token")?;
@@ -148,7 +149,7 @@ fn row_with(
     inputs: List<Text>,
     outputs: List<Text>,
 ) -> Result<Option<PagerRow>, ModelFault>
-    ensures { Gives (λ row. row) (row_with inputs outputs fields.now) result }
+    ensures { Answers is_memory (λ row. row) result (row_with inputs outputs fields.now) }
 {
     let results = maybe_queries(alloc, fields, "result_key")?;
     let limit = maybe_text(alloc, fields, "limit_key")?;
@@ -171,7 +172,7 @@ fn row_with(
 #[tactic(auto, using(crate::proofs::Each::gives_inside), unfolding(crate::specs::Paginators::queries_at))]
 fn read_queries(alloc: Global, fields: &Pairs<Doc>, key: &str) -> Result<List<Text>, ModelFault>
     requires { IsTrue (is_ascii_text key.now) }
-    ensures { Gives (λ texts. texts) (queries_at key.now fields.now) result }
+    ensures { Answers is_memory (λ texts. texts) result (queries_at key.now fields.now) }
 {
     let doc = needed(alloc, fields, key)?;
     inside(alloc, key, queries(alloc, doc))
@@ -185,7 +186,7 @@ fn maybe_queries(
     key: &str,
 ) -> Result<Option<List<Text>>, ModelFault>
     requires { IsTrue (is_ascii_text key.now) }
-    ensures { Gives (λ texts. texts) (maybe_queries key.now fields.now) result }
+    ensures { Answers is_memory (λ texts. texts) result (maybe_queries key.now fields.now) }
 {
     let Some(doc) = fields.get(key) else {
         return Ok(None);
@@ -196,7 +197,7 @@ fn maybe_queries(
 /// A text, or a list of texts with at least one.
 #[tactic(auto, unfolding(crate::specs::Paginators::queries_of))]
 fn queries(alloc: Global, doc: &Doc) -> Result<List<Text>, ModelFault>
-    ensures { Gives (λ texts. texts) (queries_of doc.now) result }
+    ensures { Answers is_memory (λ texts. texts) result (queries_of doc.now) }
 {
     if let Doc::Str(text) = doc {
         let mut one = List::new(alloc);

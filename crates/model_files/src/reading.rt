@@ -3,9 +3,10 @@ ghost use Rattle.std.specs.Prelude.{◌≡◌, [], IsTrue, IfOk};
 ghost use Rattle.std.specs.Fmt.{decimal};
 ghost use Rattle.std.specs.Option.{option_copied};
 ghost use Rattle.texts.specs.Ascii.{is_ascii_text};
+ghost use Rattle.texts.specs.Calls.{Answers};
 ghost use Rattle.model_files.specs.declared.fault.ModelFault.TheVariants as fault;
 ghost use Rattle.model_files.specs.declared.fault.Place.TheVariants as place;
-ghost use Rattle.model_files.specs.Faults.{below, moved, each_from, IsFault, Gives};
+ghost use Rattle.model_files.specs.Faults.{below, moved, each_from, IsFault, is_memory};
 ghost use Rattle.model_files.specs.Reading.{fields_of, text_of, flag_of, items_of, needed, object_at, text_at, items_at, maybe_text, maybe_object, flag_at, texts_of, texts_at, maybe_texts, is_true_at};
 
 use crate::fault::{inside, move_below};
@@ -23,7 +24,7 @@ pub fn wrong_kind() -> ModelFault
 /// The members of a document that is to be an object.
 #[tactic(auto, unfolding(crate::specs::Reading::fields_of))]
 pub fn object(doc: &Doc) -> Result<&Pairs<Doc>, ModelFault>
-    ensures { Gives (λ pairs. pairs.now) (fields_of doc.now) result }
+    ensures { Answers is_memory (λ pairs. pairs.now) result (fields_of doc.now) }
 {
     match doc {
         Doc::Fields(pairs) => Ok(pairs),
@@ -33,7 +34,7 @@ pub fn object(doc: &Doc) -> Result<&Pairs<Doc>, ModelFault>
 
 #[tactic(auto, unfolding(crate::specs::Reading::text_of))]
 pub fn text(doc: &Doc) -> Result<&Text, ModelFault>
-    ensures { Gives (λ text. text.now) (text_of doc.now) result }
+    ensures { Answers is_memory (λ text. text.now) result (text_of doc.now) }
 {
     match doc {
         Doc::Str(text) => Ok(text),
@@ -43,7 +44,7 @@ pub fn text(doc: &Doc) -> Result<&Text, ModelFault>
 
 #[tactic(auto, unfolding(crate::specs::Reading::flag_of))]
 pub fn flag(doc: &Doc) -> Result<bool, ModelFault>
-    ensures { Gives (λ flag. flag) (flag_of doc.now) result }
+    ensures { Answers is_memory (λ flag. flag) result (flag_of doc.now) }
 {
     match doc {
         Doc::Flag(flag) => Ok(*flag),
@@ -53,7 +54,7 @@ pub fn flag(doc: &Doc) -> Result<bool, ModelFault>
 
 #[tactic(auto, unfolding(crate::specs::Reading::items_of))]
 pub fn items(doc: &Doc) -> Result<&List<Doc>, ModelFault>
-    ensures { Gives (λ items. items.now) (items_of doc.now) result }
+    ensures { Answers is_memory (λ items. items.now) result (items_of doc.now) }
 {
     match doc {
         Doc::Items(items) => Ok(items),
@@ -97,7 +98,7 @@ pub fn ascii_text(alloc: Global, text: &str) -> Result<Text, OutOfMemory>
 #[tactic(auto, unfolding(crate::specs::Reading::needed))]
 pub fn needed<'a>(alloc: Global, fields: &'a Pairs<Doc>, key: &str) -> Result<&'a Doc, ModelFault>
     requires { IsTrue (is_ascii_text key.now) }
-    ensures { Gives (λ doc. doc.now) (needed key.now fields.now) result }
+    ensures { Answers is_memory (λ doc. doc.now) result (needed key.now fields.now) }
 {
     match fields.get(key) {
         Some(doc) => Ok(doc),
@@ -113,7 +114,7 @@ pub fn object_at<'a>(
     key: &str,
 ) -> Result<&'a Pairs<Doc>, ModelFault>
     requires { IsTrue (is_ascii_text key.now) }
-    ensures { Gives (λ pairs. pairs.now) (object_at key.now fields.now) result }
+    ensures { Answers is_memory (λ pairs. pairs.now) result (object_at key.now fields.now) }
 {
     let doc = needed(alloc, fields, key)?;
     inside(alloc, key, object(doc))
@@ -123,7 +124,7 @@ pub fn object_at<'a>(
 #[tactic(auto, using(crate::proofs::Each::gives_inside), unfolding(crate::specs::Reading::text_at))]
 pub fn text_at<'a>(alloc: Global, fields: &'a Pairs<Doc>, key: &str) -> Result<&'a Text, ModelFault>
     requires { IsTrue (is_ascii_text key.now) }
-    ensures { Gives (λ text. text.now) (text_at key.now fields.now) result }
+    ensures { Answers is_memory (λ text. text.now) result (text_at key.now fields.now) }
 {
     let doc = needed(alloc, fields, key)?;
     inside(alloc, key, text(doc))
@@ -137,7 +138,7 @@ pub fn items_at<'a>(
     key: &str,
 ) -> Result<&'a List<Doc>, ModelFault>
     requires { IsTrue (is_ascii_text key.now) }
-    ensures { Gives (λ items. items.now) (items_at key.now fields.now) result }
+    ensures { Answers is_memory (λ items. items.now) result (items_at key.now fields.now) }
 {
     let doc = needed(alloc, fields, key)?;
     inside(alloc, key, items(doc))
@@ -151,7 +152,7 @@ pub fn maybe_text<'a>(
     key: &str,
 ) -> Result<Option<&'a Text>, ModelFault>
     requires { IsTrue (is_ascii_text key.now) }
-    ensures { Gives option_copied (maybe_text key.now fields.now) result }
+    ensures { Answers is_memory option_copied result (maybe_text key.now fields.now) }
 {
     let Some(doc) = fields.get(key) else {
         return Ok(None);
@@ -167,7 +168,7 @@ pub fn maybe_object<'a>(
     key: &str,
 ) -> Result<Option<&'a Pairs<Doc>>, ModelFault>
     requires { IsTrue (is_ascii_text key.now) }
-    ensures { Gives option_copied (maybe_object key.now fields.now) result }
+    ensures { Answers is_memory option_copied result (maybe_object key.now fields.now) }
 {
     let Some(doc) = fields.get(key) else {
         return Ok(None);
@@ -179,7 +180,7 @@ pub fn maybe_object<'a>(
 #[tactic(auto, using(crate::proofs::Each::gives_inside), unfolding(crate::specs::Reading::flag_at))]
 pub fn flag_at(alloc: Global, fields: &Pairs<Doc>, key: &str) -> Result<bool, ModelFault>
     requires { IsTrue (is_ascii_text key.now) }
-    ensures { Gives (λ flag. flag) (flag_at key.now fields.now) result }
+    ensures { Answers is_memory (λ flag. flag) result (flag_at key.now fields.now) }
 {
     let Some(doc) = fields.get(key) else {
         return Ok(false);
@@ -191,7 +192,7 @@ pub fn flag_at(alloc: Global, fields: &Pairs<Doc>, key: &str) -> Result<bool, Mo
 #[tactic(auto, using(crate::proofs::Each::gives_inside), unfolding(crate::specs::Reading::texts_at))]
 pub fn texts_at(alloc: Global, fields: &Pairs<Doc>, key: &str) -> Result<List<Text>, ModelFault>
     requires { IsTrue (is_ascii_text key.now) }
-    ensures { Gives (λ texts. texts) (texts_at key.now fields.now) result }
+    ensures { Answers is_memory (λ texts. texts) result (texts_at key.now fields.now) }
 {
     let Some(doc) = fields.get(key) else {
         return Ok(List::new(alloc));
@@ -207,7 +208,7 @@ pub fn maybe_texts(
     key: &str,
 ) -> Result<Option<List<Text>>, ModelFault>
     requires { IsTrue (is_ascii_text key.now) }
-    ensures { Gives (λ texts. texts) (maybe_texts key.now fields.now) result }
+    ensures { Answers is_memory (λ texts. texts) result (maybe_texts key.now fields.now) }
 {
     let Some(doc) = fields.get(key) else {
         return Ok(None);
@@ -218,14 +219,14 @@ pub fn maybe_texts(
 /// A list of texts.
 #[tactic(auto, unfolding(crate::specs::Reading::texts_of))]
 pub fn texts(alloc: Global, doc: &Doc) -> Result<List<Text>, ModelFault>
-    ensures { Gives (λ texts. texts) (texts_of doc.now) result }
+    ensures { Answers is_memory (λ texts. texts) result (texts_of doc.now) }
 {
     let items = items(doc)?;
     copied_texts(alloc, items.as_slice())
 }
 
 fn copied_texts(alloc: Global, items: &[Doc]) -> Result<List<Text>, ModelFault>
-    ensures { Gives (λ texts. texts) (each_from text_of 0 items.now) result }
+    ensures { Answers is_memory (λ texts. texts) result (each_from text_of 0 items.now) }
 {
     let mut texts = List::new(alloc);
     for (at, item) in items.iter().enumerate() {

@@ -1,9 +1,11 @@
 ghost use Rattle.std.specs.Prelude.{◌≡◌, IfSome, IsTrue};
 ghost use Rattle.std.specs.Option.{option_copied};
 ghost use Rattle.std.specs.Str.{chars};
+ghost use Rattle.json_doc.specs.DecimalValue.{whole};
 ghost use Rattle.texts.specs.Ascii.{is_ascii_text};
-ghost use Rattle.model_files.specs.Faults.{each, each_from, Gives};
-ghost use Rattle.model_files.specs.Waiters.{whole_number, whole_between, number_at, state_named, state_of, matcher_named, matcher_of, needs_query, argument_of, delay_of, tries_of, acceptor_of, acceptors_of, row_of, waiters_of, IsWaiterRow, row_named};
+ghost use Rattle.texts.specs.Calls.{Answers};
+ghost use Rattle.model_files.specs.Faults.{each, each_from, is_memory};
+ghost use Rattle.model_files.specs.Waiters.{in_range, whole_between, number_at, state_named, state_of, matcher_named, matcher_of, needs_query, argument_of, delay_of, tries_of, acceptor_of, acceptors_of, row_of, waiters_of, IsWaiterRow, row_named};
 
 use crate::ModelFault;
 use crate::fault::inside;
@@ -91,7 +93,7 @@ impl Waiters {
     /// Reads the waiters from their document.
     #[tactic(auto, using(crate::proofs::Each::gives_inside), unfolding(crate::specs::Waiters::waiters_of))]
     pub fn read(alloc: Global, doc: &Doc) -> Result<Waiters, ModelFault>
-        ensures { Gives (λ rows. rows) (waiters_of doc.now) result }
+        ensures { Answers is_memory (λ rows. rows) result (waiters_of doc.now) }
     {
         let fields = object(doc)?;
         let pairs = object_at(alloc, fields, "waiters")?;
@@ -121,7 +123,7 @@ impl Waiters {
 }
 
 fn read_rows(alloc: Global, pairs: &Pairs<Doc>) -> Result<List<WaiterRow>, ModelFault>
-    ensures { Gives (λ rows. rows) (each row_of pairs.now) result }
+    ensures { Answers is_memory (λ rows. rows) result (each row_of pairs.now) }
 {
     let mut rows = List::new(alloc);
     for pair in pairs.as_slice() {
@@ -133,7 +135,7 @@ fn read_rows(alloc: Global, pairs: &Pairs<Doc>) -> Result<List<WaiterRow>, Model
 
 #[tactic(auto, unfolding(crate::specs::Waiters::row_of))]
 fn read_row(alloc: Global, pair: &Pair<Doc>) -> Result<WaiterRow, ModelFault>
-    ensures { Gives (λ row. row) (row_of pair.now) result }
+    ensures { Answers is_memory (λ row. row) result (row_of pair.now) }
 {
     let fields = object(&pair.value)?;
     let operation = text_at(alloc, fields, "operation")?;
@@ -152,21 +154,21 @@ fn read_row(alloc: Global, pair: &Pair<Doc>) -> Result<WaiterRow, ModelFault>
 
 #[tactic(auto, unfolding(crate::specs::Waiters::delay_of))]
 fn read_delay(alloc: Global, fields: &Pairs<Doc>) -> Result<u32, ModelFault>
-    ensures { Gives (λ delay. delay) (delay_of fields.now) result }
+    ensures { Answers is_memory (λ delay. delay) result (delay_of fields.now) }
 {
     number_at(alloc, fields, "delay", 0, 86_400)
 }
 
 #[tactic(auto, unfolding(crate::specs::Waiters::tries_of))]
 fn read_tries(alloc: Global, fields: &Pairs<Doc>) -> Result<u32, ModelFault>
-    ensures { Gives (λ tries. tries) (tries_of fields.now) result }
+    ensures { Answers is_memory (λ tries. tries) result (tries_of fields.now) }
 {
     number_at(alloc, fields, "maxAttempts", 1, 100_000)
 }
 
 #[tactic(auto, using(crate::proofs::Each::gives_inside), unfolding(crate::specs::Waiters::acceptors_of))]
 fn acceptors_at(alloc: Global, fields: &Pairs<Doc>) -> Result<List<Acceptor>, ModelFault>
-    ensures { Gives (λ acceptors. acceptors) (acceptors_of fields.now) result }
+    ensures { Answers is_memory (λ acceptors. acceptors) result (acceptors_of fields.now) }
 {
     let items = items_at(alloc, fields, "acceptors")?;
     inside(alloc, "acceptors", read_acceptors(alloc, items.as_slice()))
@@ -182,7 +184,7 @@ fn number_at(
     most: u32,
 ) -> Result<u32, ModelFault>
     requires { IsTrue (is_ascii_text key.now) }
-    ensures { Gives (λ number. number) (number_at key.now least most fields.now) result }
+    ensures { Answers is_memory (λ number. number) result (number_at key.now least most fields.now) }
 {
     let doc = needed(alloc, fields, key)?;
     match whole_between(doc, least, most) {
@@ -204,19 +206,17 @@ fn whole_between(doc: &Doc, least: u32, most: u32) -> Option<u32>
 
 /// A decimal as a whole number from `least` to `most`, where it is one.
 fn whole_in(number: &Decimal, least: u32, most: u32) -> Option<u32>
-    ensures { result ≡ whole_number least most number.now }
+    ensures { result ≡ in_range least most (whole number.now) }
 {
-    if number.scale != 0 || number.is_negative {
+    let whole = u32::try_from(number.whole()?).ok()?;
+    if whole < least || most < whole {
         return None;
     }
-    if number.magnitude < u128::from(least) || u128::from(most) < number.magnitude {
-        return None;
-    }
-    Some(number.magnitude as u32)
+    Some(whole)
 }
 
 fn read_acceptors(alloc: Global, items: &[Doc]) -> Result<List<Acceptor>, ModelFault>
-    ensures { Gives (λ acceptors. acceptors) (each_from acceptor_of 0 items.now) result }
+    ensures { Answers is_memory (λ acceptors. acceptors) result (each_from acceptor_of 0 items.now) }
 {
     let mut acceptors = List::new(alloc);
     for (at, item) in items.iter().enumerate() {
@@ -230,7 +230,7 @@ fn read_acceptors(alloc: Global, items: &[Doc]) -> Result<List<Acceptor>, ModelF
 
 #[tactic(auto, unfolding(crate::specs::Waiters::acceptor_of))]
 fn read_acceptor(alloc: Global, doc: &Doc) -> Result<Acceptor, ModelFault>
-    ensures { Gives (λ acceptor. acceptor) (acceptor_of doc.now) result }
+    ensures { Answers is_memory (λ acceptor. acceptor) result (acceptor_of doc.now) }
 {
     let fields = object(doc)?;
     let state = read_state(alloc, fields)?;
@@ -247,7 +247,7 @@ fn read_acceptor(alloc: Global, doc: &Doc) -> Result<Acceptor, ModelFault>
 
 #[tactic(auto, unfolding(crate::specs::Waiters::state_of))]
 fn read_state(alloc: Global, fields: &Pairs<Doc>) -> Result<State, ModelFault>
-    ensures { Gives (λ state. state) (state_of fields.now) result }
+    ensures { Answers is_memory (λ state. state) result (state_of fields.now) }
 {
     let name = text_at(alloc, fields, "state")?;
     match state_named(name) {
@@ -273,7 +273,7 @@ fn state_named(name: &Text) -> Option<State>
 
 #[tactic(auto, unfolding(crate::specs::Waiters::matcher_of))]
 fn read_matcher(alloc: Global, fields: &Pairs<Doc>) -> Result<Matcher, ModelFault>
-    ensures { Gives (λ matcher. matcher) (matcher_of fields.now) result }
+    ensures { Answers is_memory (λ matcher. matcher) result (matcher_of fields.now) }
 {
     let name = text_at(alloc, fields, "matcher")?;
     match matcher_named(name) {
@@ -310,7 +310,7 @@ fn read_argument(
     fields: &Pairs<Doc>,
     matcher: Matcher,
 ) -> Result<Option<&Text>, ModelFault>
-    ensures { Gives option_copied (argument_of matcher fields.now) result }
+    ensures { Answers is_memory option_copied result (argument_of matcher fields.now) }
 {
     let argument = maybe_text(alloc, fields, "argument")?;
     if argument.is_none() && needs_query(matcher) {

@@ -5,7 +5,7 @@ ghost use Rattle.std.specs.Prelude.{◌<◌, length, IfSome};
 
 use crate::documents::told;
 use json_doc::{Decimal, Doc, List, OutOfMemory, Pair, Pairs, Text, compact, copy, read};
-use service_model::{Model, ShapeId, whole};
+use service_model::{Model, ShapeId};
 use std::alloc::Global;
 use typed_value::{
     Flat, Typed, ValueFault, fault_line, fits_flat, from_wire, report, to_doc, validate,
@@ -173,11 +173,11 @@ fn typed_fields(alloc: Global, fields: &[Pair<Doc>]) -> Result<Typed, OutOfMemor
 }
 
 fn number(n: &Decimal) -> Typed {
-    whole(n).map_or(Typed::Number(*n), Typed::Int)
+    n.whole().map_or(Typed::Number(*n), Typed::Int)
 }
 
 fn moment(n: &Decimal) -> Typed {
-    whole(n).map_or(Typed::Null, Typed::Moment)
+    n.whole().map_or(Typed::Null, Typed::Moment)
 }
 
 /// A value as JSON.

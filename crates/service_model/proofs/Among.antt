@@ -25,7 +25,7 @@ or_assoc : (a b c : Bool) → ((a || b) || c) ≡ (a || (b || c))
 or_assoc true b c = refl
 or_assoc false b c = refl
 
-any_last : (name k : List ℕ) (ks : List (List ℕ)) → list_any (bytes_eq name) (ks ++ k ∷ []) ≡ (list_any (bytes_eq name) ks || bytes_eq name k)
+pub any_last : (name k : List ℕ) (ks : List (List ℕ)) → list_any (bytes_eq name) (ks ++ k ∷ []) ≡ (list_any (bytes_eq name) ks || bytes_eq name k)
 any_last name k [] = or_false (bytes_eq name k)
 any_last name k (j ∷ js) = ap (λ b. bytes_eq name j || b) (any_last name k js) ∙ sym (or_assoc (bytes_eq name j) (list_any (bytes_eq name) js) (bytes_eq name k))
 

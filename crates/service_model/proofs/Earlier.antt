@@ -6,10 +6,10 @@ use Rattle.indexmap.specs.IndexSet.{insert_key}
 use Rattle.json_doc.specs.declared.doc.Doc.{Doc}
 use Rattle.texts.specs.declared.pairs.Pair.{Pair}
 use Rattle.model_files.specs.declared.fault.ModelFault.{ModelFault}
-use Rattle.model_files.specs.Faults.{moved, inside, IsFault, Fails}
+use Rattle.model_files.specs.Faults.{moved, inside, IsFault}
 use Rattle.texts.specs.Calls.{◌>>=◌}
 use Rattle.model_files.specs.Reading.{Fields}
-use Rattle.model_files.proofs.Each.{with_front, one_more, fails_moved, fails_first, fails_in_front, fails_same}
+use Rattle.model_files.proofs.Each.{Fails, with_front, one_more, fails_moved, fails_first, fails_in_front, fails_same}
 use Rattle.service_model.specs.declared.operations.Row.{Row}
 use Rattle.service_model.specs.Numbering.{Names}
 use Rattle.service_model.specs.Operations.{operation_of, operations_of, with_name}

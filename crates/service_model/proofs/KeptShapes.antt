@@ -37,7 +37,7 @@ use Rattle.service_model.specs.Locations.{is_scalar, is_list, is_map, has_item, 
 use Rattle.service_model.specs.Members.{members_of, member_of, member_at, location_of, location_in, standing, time_of, roles_of, host_label_of, context_of}
 use Rattle.service_model.specs.Numbering.{Names, names_of, outline_of, outline_at, item_outline, value_in, value_in_view, text_in, text_if, text_in_view, named_at, item_of, number_of, kind_at, reference, reference_in, is_string}
 use Rattle.service_model.specs.Numbering as numbering
-use Rattle.service_model.specs.Shapes.{kind_of_shape, shape_of, shapes_of, structure_if, structure_of, no_structure, name_among, names_in, names_member, member_list, required_in, required_of, payload_in, payload_of, key_if, item_if, key_at, part_at, part_in, some_read}
+use Rattle.service_model.specs.Shapes.{have_own_wires, kind_of_shape, shape_of, shapes_of, structure_if, structure_of, no_structure, name_among, names_in, names_member, member_list, required_in, required_of, payload_in, payload_of, key_if, item_if, key_at, part_at, part_in, some_read}
 use Rattle.service_model.proofs.Soundness.{shape_as, shape_ok, reference_within, kinds_agree}
 
 module _ {A B : Type 0} (f : A → Result B ModelFault) where
@@ -291,6 +291,7 @@ pub record IsReadShape (names : Names) (p : Pair Doc) (s : Shape) : Type 0 where
   pub structure : Structure
   pub structure_read : structure_if s.kind names fields ≡ Ok structure
   pub members : s.members ≡ structure.members
+  pub wires : s.has_own_wires ≡ have_own_wires structure.members
   pub required : s.required ≡ structure.required
   pub payload : s.payload ≡ structure.payload
   pub key : key_if s.kind names fields ≡ Ok s.key
@@ -318,6 +319,7 @@ shape_read names p shape e =
       structure = s;
       structure_read = is_structure;
       members = refl;
+      wires = refl;
       required = refl;
       payload = refl;
       key = is_key;

@@ -9,6 +9,7 @@ pub mod Leading
 pub mod NamedShapes
 pub mod Noted
 pub mod Numbers
+pub mod OwnWires
 pub mod Plus
 pub mod Reading
 pub mod Refusals

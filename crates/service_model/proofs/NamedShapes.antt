@@ -1,8 +1,7 @@
 -- The shape at a member's number has the name that the file gives.
-use Rattle.std.proofs.Common.{◌≡◌, ℕ, zero, suc, ◌<◌, Bool, true, false, List, [], ◌∷◌, map, length, get_or, nat_le, slice_get, Option, None, Some, option_map, option_and_then, Result, Ok, Err, bytes_eq, codes, refl, sym, ap, subst, ◌∙◌, arith}
+use Rattle.std.proofs.Common.{◌≡◌, ℕ, zero, suc, ◌<◌, Bool, true, false, List, [], ◌∷◌, map, length, get_or, nat_le, slice_get, Some, option_and_then, Result, Ok, bytes_eq, codes, refl, sym, ap, subst, ◌∙◌, arith}
 use Rattle.std.specs.Prelude.{Contains}
 use Rattle.std.specs.List.{AllByRecursion}
-use lib.ListN.{length-map}
 use Rattle.std.proofs.lemmas.Bool.{cond-true, cond-false}
 use Rattle.std.proofs.lemmas.Option.{slice_get-map, slice_get-get_or}
 use Rattle.std.proofs.lemmas.List.Quantifiers.{position-Some}
@@ -22,7 +21,6 @@ use Rattle.model_files.specs.Faults.{inside, demand, each}
 use Rattle.model_files.specs.Reading.{Fields, fields_of, object_at, needed}
 use Rattle.model_files.proofs.Steps.{same_ok, bind_ok, inside_ok, demand_ok, fields_ok, needed_ok, each_length, each_place}
 use Rattle.service_model.specs.declared.metadata.Described.{Described}
-use Rattle.service_model.specs.declared.model.Table.{Table}
 use Rattle.service_model.specs.declared.operations.Row.{Row}
 use Rattle.service_model.specs.declared.shape.Kind.{Kind}
 use Rattle.service_model.specs.declared.shape.Kind.TheVariants as kind
@@ -30,12 +28,12 @@ use Rattle.service_model.specs.declared.shape.Member.{Member}
 use Rattle.service_model.specs.declared.shape.Shape.{Shape}
 use Rattle.service_model.specs.declared.shape.ShapeId.{ShapeId}
 use Rattle.service_model.specs.declared.shapes.Structure.{Structure}
-use Rattle.service_model.specs.Members.{members_of, member_of}
+use Rattle.service_model.specs.Members.{member_of}
 use Rattle.service_model.specs.Metadata.{metadata_of}
 use Rattle.service_model.specs.Operations.{operations_of}
-use Rattle.service_model.specs.Models.{Draft, draft_of, parts_of, entries_of, IsRead}
-use Rattle.service_model.specs.Named.{text_along, shape_named, name_at, HasNamedShape, MembersHaveNamedShapes}
-use Rattle.service_model.specs.Numbering.{Names, names_of, number_of, value_in}
+use Rattle.service_model.specs.Models.{Draft, draft_of, parts_of, entries_of}
+use Rattle.service_model.specs.Named.{text_along, name_at, HasNamedShape, MembersHaveNamedShapes}
+use Rattle.service_model.specs.Numbering.{Names, names_of, number_of}
 use Rattle.service_model.specs.Shapes.{shape_of, shapes_of, structure_if, structure_of, no_structure}
 use Rattle.service_model.proofs.KeptShapes.{IsReadMember, member_read, IsReadShape, shape_read, IsReadStructure, structure_read, IsReference, reference_read, value_read, some_at}
 use Rattle.service_model.proofs.WholeTables.{names_read}

@@ -7,7 +7,7 @@ use Rattle.texts.specs.Keys.{keys, IsDistinct}
 use Rattle.model_files.specs.declared.fault.ModelFault.{ModelFault}
 use Rattle.model_files.specs.declared.fault.ModelFault.TheVariants.{WrongKind}
 use Rattle.model_files.specs.declared.fault.Place.TheVariants.{At}
-use Rattle.model_files.specs.Faults.{demand, Fails}
+use Rattle.model_files.specs.Faults.{demand}
 use Rattle.texts.specs.Calls.{◌>>=◌}
 use Rattle.model_files.specs.Reading.{Fields, fields_of, object_at}
 use Rattle.service_model.specs.declared.metadata.Protocol.{Protocol}
@@ -21,6 +21,7 @@ use Rattle.service_model.specs.declared.shape.ShapeId.{ShapeId}
 use Rattle.service_model.specs.Admission.{IsAdmitted, members_at}
 use Rattle.service_model.specs.Kept.{HasOwnNames, AreFilled, fills_uri, fills_host, IsOperation}
 use Rattle.service_model.specs.Models.{draft_of, parts_of, IsRead, IsSound, IsOfKind}
+use Rattle.model_files.proofs.Each.{Fails}
 use Rattle.model_files.proofs.Steps.{bind_ok, demand_ok, same_ok}
 use Rattle.service_model.proofs.WholeTables.{HasRowStructures, HasFilled, IsSoundEntries}
 
@@ -84,6 +85,7 @@ sound_table protocol pairs rows table few distinct members sound zip = record {
   few = omega (arith, few, sound.as_many);
   shapes = sound.kept;
   members = members;
+  wires = sound.wires;
   operations = All-from_recursion (IsOperation table.shapes) table.operations (operations_kept protocol table.shapes rows table.operations
       (recursion_from_All (HasRowStructures table.shapes) rows sound.structures) (recursion_from_All (HasFilled table.shapes) rows sound.filled) zip);
   names = subst IsDistinct (sym sound.names) distinct;

@@ -2,9 +2,9 @@
 use Rattle.std.proofs.Common.{◌≡◌, Bool, false, Result, Ok, Err, sym, ap, subst, ◌∙◌}
 use Rattle.std.specs.Prelude.{IsErr, IsErrAnd, IfOk, ℕ, List}
 use Rattle.model_files.specs.declared.fault.ModelFault.{ModelFault}
-use Rattle.model_files.specs.Faults.{demand, inside, Fails, IsFault, Gives}
-use Rattle.texts.specs.Calls.{◌>>=◌}
-use Rattle.model_files.proofs.Each.{fails_same, is_due}
+use Rattle.model_files.specs.Faults.{demand, inside, IsFault, is_memory}
+use Rattle.texts.specs.Calls.{◌>>=◌, Answers}
+use Rattle.model_files.proofs.Each.{Fails, fails_same, is_due}
 use Rattle.model_files.proofs.Steps.{inside_ok}
 
 -- a step that goes well, before steps that fail
@@ -17,8 +17,8 @@ then_gives m x f y is gives = ap (λ r. r >>= f) is ∙ gives
 
 -- a step that goes well, before a last one
 pub then_as : {A T U : Type 0} (view : T → U) (m : Result A ModelFault) (x : A) (f : A → Result U ModelFault) (result : Result T ModelFault)
-    → m ≡ Ok x → Gives view (f x) result → Gives view (m >>= f) result
-then_as view m x f result is gives = subst (λ due. Gives view due result) (sym (ap (λ r. r >>= f) is)) gives
+    → m ≡ Ok x → Answers is_memory view result (f x) → Answers is_memory view result (m >>= f)
+then_as view m x f result is gives = subst (λ due. Answers is_memory view result due) (sym (ap (λ r. r >>= f) is)) gives
 
 -- what `?` hands on
 pub came : {T : Type 0} (result : Result T ModelFault) (fault : ModelFault) → IsErr result × IsErrAnd result (λ e. e ≡ fault) → result ≡ Err fault
@@ -26,8 +26,8 @@ came (Ok x) fault e = absurd e.1
 came (Err e) fault is = ap Err is.1
 
 -- the answer of a call that ends with the fault of a step
-pub ends : {T U : Type 0} (view : T → U) (due : Result U ModelFault) (result : Result T ModelFault) (fault : ModelFault) → result ≡ Err fault → Fails fault due → Gives view due result
-ends view due result fault is fails = subst (Gives view due) (sym is) fails
+pub ends : {T U : Type 0} (view : T → U) (due : Result U ModelFault) (result : Result T ModelFault) (fault : ModelFault) → result ≡ Err fault → Fails fault due → Answers is_memory view result due
+ends view due result fault is fails = subst (λ r. Answers is_memory view r due) (sym is) fails
 
 -- a demand that isn't met
 pub demand_fails : {A : Type 0} (b : Bool) (fault due : ModelFault) (others : Result A ModelFault) → b ≡ false → IsFault fault due → Fails fault (demand b due others)

@@ -28,7 +28,7 @@ use Rattle.service_model.specs.Choices.{kind_named}
 use Rattle.service_model.specs.Members.{members_of, member_of, member_at, location_of, time_of, roles_of}
 use Rattle.service_model.specs.Numbering.{Names, names_of, outline_of, value_in, text_if, number_of, kind_at, reference, reference_in, structure_in, string_in, is_structure, is_string}
 use Rattle.service_model.specs.Numbering as numbering
-use Rattle.service_model.specs.Shapes.{least_of, kind_of_shape, shape_of, shapes_of, structure_if, structure_of, required_of, payload_of, key_if, item_if, key_at, part_at, part_in, some_read}
+use Rattle.service_model.specs.Shapes.{have_own_wires, least_of, kind_of_shape, shape_of, shapes_of, structure_if, structure_of, required_of, payload_of, key_if, item_if, key_at, part_at, part_in, some_read}
 use Rattle.model_files.proofs.Steps.{same_ok, bind_ok, inside_ok, demand_ok, or_fault_ok, fields_ok, text_at_ok, each_all, each_place}
 
 -- a name that has a number
@@ -226,6 +226,7 @@ shape_as name fields k s key item time = record {
   name = name;
   kind = k;
   members = s.members;
+  has_own_wires = have_own_wires s.members;
   required = s.required;
   payload = s.payload;
   min = least_of fields;

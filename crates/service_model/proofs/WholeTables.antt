@@ -22,7 +22,7 @@ use Rattle.service_model.specs.declared.shape.Member.{Member}
 use Rattle.service_model.specs.declared.shape.Shape.{Shape}
 use Rattle.service_model.specs.declared.shape.ShapeId.{ShapeId}
 use Rattle.service_model.specs.Admission.{members_at}
-use Rattle.service_model.specs.Kept.{IsShape, AreFilled, fills_uri, fills_host}
+use Rattle.service_model.specs.Kept.{IsShape, TellsWires, AreFilled, fills_uri, fills_host}
 use Rattle.service_model.specs.Models.{entries_of, HasParts, IsWithin, IsOfKind}
 use Rattle.service_model.specs.Numbering.{Names, names_of, kind_at, structure_in}
 use Rattle.service_model.specs.declared.signing.Signing.{Signing}
@@ -32,6 +32,7 @@ use Rattle.model_files.proofs.Steps.{same_ok, bind_ok, inside_ok, demand_ok, eac
 use Rattle.service_model.proofs.Among.{any_insert}
 use Rattle.service_model.proofs.KeptOperations.{uri_kept, host_kept}
 use Rattle.service_model.proofs.KeptShapes.{IsReadShape, shape_read, shapes_kept}
+use Rattle.service_model.proofs.OwnWires.{tells_wires}
 use Rattle.service_model.proofs.Soundness.{HasNamed, shape_ok, structure_in_ok, kinds_agree}
 
 maybe_ok : (names : Names) (key : List ℕ) (doc : Option Doc) (o : Option ShapeId) → structure_maybe names key doc ≡ Ok o → IfSome o (λ id. kind_at names id ≡ Some kind.Structure)
@@ -190,6 +191,7 @@ pub record IsSoundEntries (pairs : Fields) (rows : List Row) (shapes : List Shap
   pub parts : All (HasParts shapes) shapes
   pub structures : All (HasRowStructures shapes) rows
   pub kept : All (IsShape shapes) shapes
+  pub wires : All TellsWires shapes
   pub filled : All (HasFilled shapes) rows
   pub names : map (λ s. s.name) shapes ≡ keys pairs
   pub commands : IsDistinct (map (λ r. r.command) rows)
@@ -217,6 +219,7 @@ sound_entries signs operations pairs rows shapes e =
           (λ row h. (IfSome_then row.input h.0 (λ id k. kinds_agree pairs shapes id kind.Structure shapes_read k), IfSome_then row.output h.1 (λ id k. kinds_agree pairs shapes id kind.Structure shapes_read k)))
           rows (rows_ok names pairs signs (HasNamedStructures names) (λ earlier row r. (structure_ok names (codes "input") r.fields row.input r.input, structure_ok names (codes "output") r.fields row.output r.output)) [] operations rows rows_read));
       kept = shapes_kept pairs shapes shapes_read many;
+      wires = All-from_recursion TellsWires shapes (each_all (shape_of names) TellsWires (λ p s read. tells_wires names p s read) pairs shapes shapes_read);
       filled = All-from_recursion (HasFilled shapes) rows (rows_ok names pairs signs (HasFilled shapes)
           (λ earlier row r. record {
             uri = uri_kept pairs shapes shapes_read many r.fields row.input (row.method, row.uri) r.input r.http;

@@ -1,5 +1,5 @@
 -- What a model that was read keeps, so that nobody has to test it again.
-use Rattle.std.specs.Prelude.{◌≡◌, ℕ, ◌<◌, ◌&&◌, ◌||◌, Bool, true, false, IsTrue, List, length, map, slice_get, Option, None, Some, IfSome, IsSomeAnd, is_some, option_and_then, bytes_eq}
+use Rattle.std.specs.Prelude.{◌≡◌, ℕ, ◌<◌, ◌&&◌, ◌||◌, ◌↔◌, Bool, true, false, IsTrue, List, length, map, slice_get, Option, None, Some, IfSome, IsSomeAnd, is_some, option_and_then, bytes_eq}
 use Rattle.std.specs.List.{All, list_any}
 use Rattle.texts.specs.Keys.{IsDistinct}
 use Rattle.service_model.specs.declared.operation.Operation.{Operation}
@@ -64,6 +64,14 @@ HasItems shapes _ key item = (key ≡ None) × (item ≡ None)
 -- no two members have one name
 abbrev pub HasOwnNames : List Member → Type 0
 HasOwnNames members = IsDistinct (map (λ m. m.name) members)
+
+-- no two members are sent under one name
+abbrev pub HasOwnWires : List Member → Type 0
+HasOwnWires members = IsDistinct (map (λ m. m.wire) members)
+
+-- a shape tells whether no two of its members are sent under one name
+abbrev pub TellsWires : Shape → Type 0
+TellsWires shape = IsTrue shape.has_own_wires ↔ HasOwnWires shape.members
 
 -- a shape's members and items are there, and what it requires and its payload are members of it
 pub record IsShape (shapes : List Shape) (shape : Shape) : Type 0 where

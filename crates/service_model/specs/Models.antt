@@ -6,8 +6,8 @@ use Rattle.texts.specs.Keys.{IsDistinct}
 use Rattle.model_files.specs.declared.fault.ModelFault.{ModelFault}
 use Rattle.model_files.specs.declared.fault.ModelFault.TheVariants.{WrongKind}
 use Rattle.model_files.specs.declared.fault.Place.TheVariants.{At}
-use Rattle.model_files.specs.Faults.{inside, demand, Fails}
-use Rattle.texts.specs.Calls.{◌>>=◌}
+use Rattle.model_files.specs.Faults.{inside, demand, is_memory}
+use Rattle.texts.specs.Calls.{◌>>=◌, Unless}
 use Rattle.model_files.specs.Reading.{Fields, fields_of, object_at}
 use Rattle.service_model.specs.declared.metadata.Described.{Described}
 use Rattle.service_model.specs.declared.model.Table.{Table}
@@ -17,7 +17,7 @@ use Rattle.service_model.specs.declared.shape.Kind.TheVariants.{Str}
 use Rattle.service_model.specs.declared.shape.Shape.{Shape}
 use Rattle.service_model.specs.Admission.{IsAdmitted}
 pub use Rattle.service_model.specs.Kept.{IsWithin, IsOfKind}
-use Rattle.service_model.specs.Kept.{HasOwnNames, IsShape, IsOperation}
+use Rattle.service_model.specs.Kept.{HasOwnNames, TellsWires, IsShape, IsOperation}
 use Rattle.service_model.specs.Metadata.{metadata_of}
 use Rattle.service_model.specs.Numbering.{names_of}
 use Rattle.service_model.specs.Operations.{operations_of}
@@ -59,7 +59,7 @@ IsModel draft table =
 -- the answer to a model file: its table, or its first fault
 abbrev pub IsRead : Doc → Result Table ModelFault → Type 0
 IsRead doc (Ok table) = (draft : Draft) × (draft_of doc ≡ Ok draft) × IsModel draft table
-IsRead doc (Err fault) = Fails fault (draft_of doc)
+IsRead doc (Err fault) = Unless (is_memory fault) (draft_of doc ≡ Err fault)
 
 -- the operation with a command name
 abbrev pub operation_named : List ℕ → List Operation → Option Operation
@@ -76,6 +76,7 @@ pub record IsSound (table : Table) : Type 0 where
   pub few : length table.shapes ≤ 1000000
   pub shapes : All (IsShape table.shapes) table.shapes
   pub members : All (λ shape. HasOwnNames shape.members) table.shapes
+  pub wires : All TellsWires table.shapes
   pub operations : All (IsOperation table.shapes) table.operations
   pub names : IsDistinct (map (λ shape. shape.name) table.shapes)
   pub commands : IsDistinct (map (λ op. op.command) table.operations)

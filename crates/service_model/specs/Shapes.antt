@@ -1,12 +1,12 @@
 -- The shapes of a model.
-use Rattle.std.specs.Prelude.{ℕ, Bool, false, ◌+◌, ◌==◌, ◌^◌, nat_lt, ◌&&◌, if◌then◌else◌, ℤ, pos, neg_ℤ, List, [], map, Option, None, Some, Result, Ok, Err, bytes_eq, codes, option_and_then}
+use Rattle.std.specs.Prelude.{ℕ, Bool, true, false, not, ◌&&◌, ℤ, List, [], ◌∷◌, ◌++◌, map, Option, None, Some, Result, Ok, Err, bytes_eq, codes, option_and_then}
 use Rattle.std.specs.List.{list_any}
-use Rattle.json_doc.specs.declared.decimal.Decimal.{Decimal}
 use Rattle.json_doc.specs.declared.doc.Doc.{Doc}
 use Rattle.json_doc.specs.declared.doc.Doc.TheOpen.{Doc-F}
 use Rattle.json_doc.specs.declared.doc.Doc.TheViews.{out-Doc}
 use Rattle.texts.specs.declared.pairs.Pair.{Pair}
 use Rattle.texts.specs.Keys.{value_at}
+use Rattle.json_doc.specs.DecimalValue.{whole}
 use Rattle.model_files.specs.declared.fault.ModelFault.{ModelFault}
 use Rattle.model_files.specs.declared.fault.ModelFault.TheVariants.{Missing, WrongKind}
 use Rattle.model_files.specs.declared.fault.Place.TheVariants.{Whole, At}
@@ -112,13 +112,6 @@ item_if kind.List names fields = some_read (part_at names (codes "member") field
 item_if kind.Map names fields = some_read (part_at names (codes "value") fields)
 item_if _ names fields = Ok None
 
-abbrev pub signed : Bool → ℕ → ℤ
-signed is_negative n = if is_negative then neg_ℤ (pos n) else pos n
-
--- a decimal as a number in 64 bits with a sign, where it is one
-abbrev pub whole : Decimal → Option ℤ
-whole n = if n.scale == 0 && nat_lt n.magnitude (if n.is_negative then 2 ^ 63 + 1 else 2 ^ 63) then Some (signed n.is_negative n.magnitude) else None
-
 abbrev pub least_in : Doc-F Doc → Option ℤ
 least_in (Doc-F.Number n) = whole n
 least_in _ = None
@@ -126,6 +119,15 @@ least_in _ = None
 -- the least length or value: a whole number in 64 bits, else it is ignored
 unfoldable pub least_of : Fields → Option ℤ
 least_of fields = option_and_then (λ doc. least_in (out-Doc doc)) (value_at (codes "min") fields)
+
+-- none of these texts is an earlier one, and none stands twice
+abbrev pub are_new : List (List ℕ) → List (List ℕ) → Bool
+are_new earlier [] = true
+are_new earlier (text ∷ texts) = not (list_any (bytes_eq text) earlier) && are_new (earlier ++ text ∷ []) texts
+
+-- no two members are sent under one name
+abbrev pub have_own_wires : List Member → Bool
+have_own_wires members = are_new [] (map (λ m. m.wire) members)
 
 unfoldable pub shape_of : Names → Pair Doc → Result Shape ModelFault
 shape_of names p = do
@@ -139,6 +141,7 @@ shape_of names p = do
     name = p.key;
     kind = kind;
     members = structure.members;
+    has_own_wires = have_own_wires structure.members;
     required = structure.required;
     payload = structure.payload;
     min = least_of fields;

@@ -1,7 +1,8 @@
 //! The parameters of endpoint rules that operations set.
 ghost use Rattle.std.specs.Prelude.{◌≡◌};
 ghost use Rattle.json_doc.specs.declared.doc.Doc.TheViews.{out-Doc};
-ghost use Rattle.model_files.specs.Faults.{each, Gives};
+ghost use Rattle.texts.specs.Calls.{Answers};
+ghost use Rattle.model_files.specs.Faults.{each, is_memory};
 ghost use Rattle.service_model.specs.Operations.{is_fixed, fixed_value, fixed_in, fixed_params_of};
 
 use json_doc::{Doc, List, Pair, Pairs, Text, copy};
@@ -14,7 +15,7 @@ pub fn read_fixed_params(
     alloc: Global,
     fields: &Pairs<Doc>,
 ) -> Result<List<(Text, Doc)>, ModelFault>
-    ensures { Gives (λ x. x) (fixed_params_of fields.now) result }
+    ensures { Answers is_memory (λ x. x) result (fixed_params_of fields.now) }
 {
     let Some(doc) = fields.get("staticContextParams") else {
         return Ok(List::new(alloc));
@@ -24,14 +25,14 @@ pub fn read_fixed_params(
 
 #[tactic(auto, unfolding(crate::specs::Operations::fixed_in))]
 fn fixed_params(alloc: Global, doc: &Doc) -> Result<List<(Text, Doc)>, ModelFault>
-    ensures { Gives (λ x. x) (fixed_in doc.now) result }
+    ensures { Answers is_memory (λ x. x) result (fixed_in doc.now) }
 {
     let pairs = object(doc)?;
     fixed_pairs(alloc, pairs)
 }
 
 fn fixed_pairs(alloc: Global, pairs: &Pairs<Doc>) -> Result<List<(Text, Doc)>, ModelFault>
-    ensures { Gives (λ x. x) (each fixed_value pairs.now) result }
+    ensures { Answers is_memory (λ x. x) result (each fixed_value pairs.now) }
 {
     let mut params = List::new(alloc);
     for pair in pairs.as_slice() {
@@ -44,7 +45,7 @@ fn fixed_pairs(alloc: Global, pairs: &Pairs<Doc>) -> Result<List<(Text, Doc)>, M
 /// The value of a parameter: a text or a flag.
 #[tactic(auto, unfolding(crate::specs::Operations::fixed_value))]
 fn fixed_value(alloc: Global, pair: &Pair<Doc>) -> Result<(Text, Doc), ModelFault>
-    ensures { Gives (λ x. x) (fixed_value pair.now) result }
+    ensures { Answers is_memory (λ x. x) result (fixed_value pair.now) }
 {
     let fields = object(&pair.value)?;
     let value = needed(alloc, fields, "value")?;

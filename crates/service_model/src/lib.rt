@@ -31,4 +31,3 @@ pub use model_files::{
 };
 pub use operation::{Operation, Refusal};
 pub use shape::{Kind, Location, Member, Shape, ShapeId, TimeForm};
-pub use shapes::whole;

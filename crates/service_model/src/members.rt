@@ -1,7 +1,8 @@
 //! The members of structures.
 ghost use Rattle.std.specs.Prelude.{◌≡◌, ◌<◌, ◌^◌, length, unwrap_or, IfOk};
 ghost use Rattle.std.specs.Option.{option_copied};
-ghost use Rattle.model_files.specs.Faults.{Gives};
+ghost use Rattle.texts.specs.Calls.{Answers};
+ghost use Rattle.model_files.specs.Faults.{is_memory};
 ghost use Rattle.service_model.specs.Kept.{HasOwnNames};
 ghost use Rattle.service_model.specs.Locations.{is_scalar_shape};
 ghost use Rattle.service_model.specs.Members.{location_of, time_in, time_of, host_label_of, context_of, roles_of, member_at, member_of, members_of};
@@ -23,7 +24,7 @@ pub fn read_members(
     pairs: &Pairs<Doc>,
 ) -> Result<List<Member>, ModelFault>
     requires { length names.now.entries < 2 ^ 32 }
-    ensures value { Gives (λ x. x) (members_of names.now.entries pairs.now) result }
+    ensures value { Answers is_memory (λ x. x) result (members_of names.now.entries pairs.now) }
     ensures distinct { IfOk result (λ members. HasOwnNames members) }
 {
     let mut members = Vec::with_capacity(alloc, pairs.len())?;
@@ -37,7 +38,7 @@ pub fn read_members(
 #[tactic(auto, unfolding(crate::specs::Members::member_of))]
 fn read_member(alloc: Global, names: &Names, pair: &Pair<Doc>) -> Result<Member, ModelFault>
     requires { length names.now.entries < 2 ^ 32 }
-    ensures { Gives (λ x. x) (member_of names.now.entries pair.now) result }
+    ensures { Answers is_memory (λ x. x) result (member_of names.now.entries pair.now) }
 {
     let fields = object(&pair.value)?;
     let shape = reference(alloc, names, fields)?;
@@ -55,7 +56,7 @@ fn member_at(
     shape: ShapeId,
     location: Option<Location>,
 ) -> Result<Member, ModelFault>
-    ensures { Gives (λ x. x) (member_at names.now.entries pair.now fields.now shape location) result }
+    ensures { Answers is_memory (λ x. x) result (member_at names.now.entries pair.now fields.now shape location) }
 {
     let wire = maybe_text(alloc, fields, "locationName")?;
     let time = read_time(alloc, fields)?;
@@ -99,7 +100,7 @@ fn read_roles(
     fields: &Pairs<Doc>,
     shape: ShapeId,
 ) -> Result<Roles, ModelFault>
-    ensures { Gives (λ x. x) (roles_of names.now.entries fields.now shape) result }
+    ensures { Answers is_memory (λ x. x) result (roles_of names.now.entries fields.now shape) }
 {
     let token = flag_at(alloc, fields, "idempotencyToken")?;
     let json_value = flag_at(alloc, fields, "jsonvalue")?;
@@ -121,7 +122,7 @@ fn read_location(
     fields: &Pairs<Doc>,
     shape: ShapeId,
 ) -> Result<Option<Location>, ModelFault>
-    ensures { Gives (λ x. x) (location_of names.now.entries fields.now shape) result }
+    ensures { Answers is_memory (λ x. x) result (location_of names.now.entries fields.now shape) }
 {
     let Some(name) = maybe_text(alloc, fields, "location")? else {
         return Ok(None);
@@ -135,7 +136,7 @@ fn read_location(
 /// How a moment is written.
 #[tactic(auto, unfolding(crate::specs::Members::time_of))]
 pub fn read_time(alloc: Global, fields: &Pairs<Doc>) -> Result<Option<TimeForm>, ModelFault>
-    ensures { Gives (λ x. x) (time_of fields.now) result }
+    ensures { Answers is_memory (λ x. x) result (time_of fields.now) }
 {
     let name = maybe_text(alloc, fields, "timestampFormat")?;
     time_in(alloc, name)
@@ -144,7 +145,7 @@ pub fn read_time(alloc: Global, fields: &Pairs<Doc>) -> Result<Option<TimeForm>,
 /// The form that is named, where one is.
 #[tactic(auto, unfolding(crate::specs::Members::time_in))]
 fn time_in(alloc: Global, name: Option<&Text>) -> Result<Option<TimeForm>, ModelFault>
-    ensures { Gives (λ x. x) (time_in (option_copied name.entry)) result }
+    ensures { Answers is_memory (λ x. x) result (time_in (option_copied name.entry)) }
 {
     let Some(name) = name else {
         return Ok(None);
@@ -163,7 +164,7 @@ fn read_host_label(
     fields: &Pairs<Doc>,
     shape: ShapeId,
 ) -> Result<bool, ModelFault>
-    ensures { Gives (λ x. x) (host_label_of names.now.entries fields.now shape) result }
+    ensures { Answers is_memory (λ x. x) result (host_label_of names.now.entries fields.now shape) }
 {
     let is_label = flag_at(alloc, fields, "hostLabel")?;
     if is_label && !is_scalar_shape(names, shape) {
@@ -184,7 +185,7 @@ fn is_scalar_shape(names: &Names, shape: ShapeId) -> bool
 /// The parameter of endpoint rules that a member sets.
 #[tactic(auto, using(model_files::proofs::Each::gives_inside), unfolding(crate::specs::Members::context_of))]
 fn read_context(alloc: Global, fields: &Pairs<Doc>) -> Result<Option<&Text>, ModelFault>
-    ensures { Gives option_copied (context_of fields.now) result }
+    ensures { Answers is_memory option_copied result (context_of fields.now) }
 {
     let Some(context) = maybe_object(alloc, fields, "contextParam")? else {
         return Ok(None);

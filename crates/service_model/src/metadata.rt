@@ -1,7 +1,8 @@
 ghost use Rattle.std.specs.Prelude.{◌≡◌, IsTrue};
 ghost use Rattle.std.specs.Option.{option_copied};
 ghost use Rattle.texts.specs.Ascii.{is_ascii_text};
-ghost use Rattle.model_files.specs.Faults.{Gives};
+ghost use Rattle.texts.specs.Calls.{Answers};
+ghost use Rattle.model_files.specs.Faults.{is_memory};
 ghost use Rattle.service_model.specs.Metadata.{is_among, is_text, protocol_named, protocol_among, protocol_of, is_json, json_text, metadata_of};
 
 use json_doc::{Doc, List, OutOfMemory, Pairs, Text};
@@ -41,7 +42,7 @@ pub struct Described {
 /// Reads `metadata`.
 #[tactic(auto, unfolding(crate::specs::Metadata::metadata_of))]
 pub fn read_metadata(alloc: Global, fields: &Pairs<Doc>) -> Result<Described, ModelFault>
-    ensures { Gives (λ x. x) (metadata_of fields.now) result }
+    ensures { Answers is_memory (λ x. x) result (metadata_of fields.now) }
 {
     let protocol = read_protocol(alloc, fields)?;
     let is_json = is_json(protocol);
@@ -65,7 +66,7 @@ pub fn read_metadata(alloc: Global, fields: &Pairs<Doc>) -> Result<Described, Mo
 /// The protocol: of `protocols` the first that this program speaks, else `protocol`.
 #[tactic(auto, unfolding(crate::specs::Metadata::protocol_of))]
 fn read_protocol(alloc: Global, fields: &Pairs<Doc>) -> Result<Protocol, ModelFault>
-    ensures { Gives (λ x. x) (protocol_of fields.now) result }
+    ensures { Answers is_memory (λ x. x) result (protocol_of fields.now) }
 {
     let protocol = maybe_text(alloc, fields, "protocol")?;
     let protocols = maybe_texts(alloc, fields, "protocols")?;
@@ -137,7 +138,7 @@ fn json_text(
     is_json: bool,
 ) -> Result<Text, ModelFault>
     requires { IsTrue (is_ascii_text key.now) }
-    ensures { Gives (λ x. x) (json_text is_json key.now fields.now) result }
+    ensures { Answers is_memory (λ x. x) result (json_text is_json key.now fields.now) }
 {
     match maybe_text(alloc, fields, key)? {
         Some(text) => Ok(text.copy(alloc)?),

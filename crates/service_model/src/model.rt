@@ -2,9 +2,10 @@ ghost use Rattle.std.specs.Prelude.{◌≡◌, ◌<◌, ◌^◌, length, map, sl
 ghost use Rattle.std.specs.List.{All};
 ghost use Rattle.std.specs.Option.{option_copied};
 ghost use Rattle.std.specs.Str.{chars};
-ghost use Rattle.model_files.specs.Faults.{inside, Gives};
+ghost use Rattle.texts.specs.Calls.{Answers};
+ghost use Rattle.model_files.specs.Faults.{inside, is_memory};
 ghost use Rattle.texts.specs.Keys.{keys, IsDistinct};
-ghost use Rattle.service_model.specs.Kept.{HasOwnNames, IsShape, IsOperation};
+ghost use Rattle.service_model.specs.Kept.{HasOwnNames, TellsWires, IsShape, IsOperation};
 ghost use Rattle.service_model.specs.Metadata.{metadata_of};
 ghost use Rattle.service_model.specs.Models.{parts_of, entries_of, operation_named, IsRead};
 
@@ -90,6 +91,7 @@ impl Model {
         ensures at { slice_get self.now.shapes id.0 ≡ Some result.now }
         ensures kept { IsShape self.now.shapes result.now }
         ensures members { HasOwnNames result.now.members }
+        ensures wires { TellsWires result.now }
         ensures names { IsDistinct (map (λ shape. shape.name) self.now.shapes) }
     {
         &self.table.shapes.as_slice()[id.0 as usize]
@@ -138,7 +140,7 @@ struct Parts<'a> {
 
 #[tactic(auto, unfolding(crate::specs::Models::parts_of))]
 fn parts_of(alloc: Global, doc: &Doc) -> Result<Parts<'_>, ModelFault>
-    ensures parts { Gives (λ parts. (parts.metadata.now, parts.operations.now, parts.shapes.now)) (parts_of doc.now) result }
+    ensures parts { Answers is_memory (λ parts. (parts.metadata.now, parts.operations.now, parts.shapes.now)) result (parts_of doc.now) }
     ensures distinct { IfOk result (λ parts. IsDistinct (keys parts.shapes.now)) }
 {
     let fields = object(doc)?;
@@ -157,7 +159,7 @@ fn parts_of(alloc: Global, doc: &Doc) -> Result<Parts<'_>, ModelFault>
 
 #[tactic(auto, using(model_files::proofs::Each::gives_inside))]
 fn read_described(alloc: Global, fields: &Pairs<Doc>) -> Result<Described, ModelFault>
-    ensures { Gives (λ described. described) (inside (codes "metadata") (metadata_of fields.now)) result }
+    ensures { Answers is_memory (λ described. described) result (inside (codes "metadata") (metadata_of fields.now)) }
 {
     inside(alloc, "metadata", read_metadata(alloc, fields))
 }
@@ -170,7 +172,7 @@ fn read_entries(
     signs_by_v4: bool,
 ) -> Result<(Vec<Row>, List<Shape>), ModelFault>
     requires { length parts.now.shapes.now < 2 ^ 32 }
-    ensures value { Gives (λ entries. (entries.0.items, entries.1)) (entries_of signs_by_v4 parts.now.operations.now parts.now.shapes.now) result }
+    ensures value { Answers is_memory (λ entries. (entries.0.items, entries.1)) result (entries_of signs_by_v4 parts.now.operations.now parts.now.shapes.now) }
     ensures distinct { IfOk result (λ entries. All (λ shape. HasOwnNames shape.members) entries.1) }
 {
     let names = number_shapes(alloc, parts.shapes)?;

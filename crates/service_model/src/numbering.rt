@@ -4,7 +4,8 @@ ghost use Rattle.std.specs.Option.{option_copied};
 ghost use Rattle.texts.specs.Ascii.{is_ascii_text};
 ghost use Rattle.model_files.specs.declared.fault.ModelFault.TheVariants as fault;
 ghost use Rattle.model_files.specs.declared.fault.Place.TheVariants as place;
-ghost use Rattle.model_files.specs.Faults.{IsFault, Gives};
+ghost use Rattle.texts.specs.Calls.{Answers};
+ghost use Rattle.model_files.specs.Faults.{IsFault, is_memory};
 ghost use Rattle.service_model.specs.Numbering.{value_in, text_if, text_in, kind_of, named_at, item_of, outline_of, names_of, kind_at, item_outline, reference, reference_in, structure_in, string_in};
 
 use crate::choices::kind_named;
@@ -108,7 +109,7 @@ fn text_if(doc: &Doc) -> Option<&Text>
 #[tactic(auto, unfolding(crate::specs::Numbering::reference))]
 pub fn reference(alloc: Global, names: &Names, fields: &Pairs<Doc>) -> Result<ShapeId, ModelFault>
     requires { length names.now.entries < 2 ^ 32 }
-    ensures { Gives (λ x. x) (reference names.now.entries fields.now) result }
+    ensures { Answers is_memory (λ x. x) result (reference names.now.entries fields.now) }
 {
     let name = text_at(alloc, fields, "shape")?;
     match names.get_index_of(name) {
@@ -131,7 +132,7 @@ fn unknown(alloc: Global) -> ModelFault
 #[tactic(auto, unfolding(crate::specs::Numbering::reference_in))]
 pub fn reference_in(alloc: Global, names: &Names, doc: &Doc) -> Result<ShapeId, ModelFault>
     requires { length names.now.entries < 2 ^ 32 }
-    ensures { Gives (λ x. x) (reference_in names.now.entries doc.now) result }
+    ensures { Answers is_memory (λ x. x) result (reference_in names.now.entries doc.now) }
 {
     let fields = object(doc)?;
     reference(alloc, names, fields)
@@ -141,7 +142,7 @@ pub fn reference_in(alloc: Global, names: &Names, doc: &Doc) -> Result<ShapeId, 
 #[tactic(auto, unfolding(crate::specs::Numbering::structure_in))]
 pub fn structure_in(alloc: Global, names: &Names, doc: &Doc) -> Result<ShapeId, ModelFault>
     requires { length names.now.entries < 2 ^ 32 }
-    ensures { Gives (λ x. x) (structure_in names.now.entries doc.now) result }
+    ensures { Answers is_memory (λ x. x) result (structure_in names.now.entries doc.now) }
 {
     let id = reference_in(alloc, names, doc)?;
     match kind_at(names, id) {
@@ -154,7 +155,7 @@ pub fn structure_in(alloc: Global, names: &Names, doc: &Doc) -> Result<ShapeId, 
 #[tactic(auto, unfolding(crate::specs::Numbering::string_in))]
 pub fn string_in(alloc: Global, names: &Names, doc: &Doc) -> Result<ShapeId, ModelFault>
     requires { length names.now.entries < 2 ^ 32 }
-    ensures { Gives (λ x. x) (string_in names.now.entries doc.now) result }
+    ensures { Answers is_memory (λ x. x) result (string_in names.now.entries doc.now) }
 {
     let id = reference_in(alloc, names, doc)?;
     match kind_at(names, id) {

@@ -2,7 +2,8 @@
 ghost use Rattle.std.specs.Prelude.{◌≡◌, ◌<◌, ◌^◌, [], IsTrue, length};
 ghost use Rattle.std.specs.Option.{option_copied};
 ghost use Rattle.texts.specs.Ascii.{is_ascii_text};
-ghost use Rattle.model_files.specs.Faults.{Gives};
+ghost use Rattle.texts.specs.Calls.{Answers};
+ghost use Rattle.model_files.specs.Faults.{is_memory};
 ghost use Rattle.service_model.specs.Operations.{command_of, fields_if, input_members, uri_of, method_and_uri, http_of, structure_at, endpoint_prefix, host_prefix_of, true_below, is_true_below, needs_checksum, needs_discovery, operation_of, operations_of};
 
 use crate::ShapeId;
@@ -56,7 +57,7 @@ pub fn read_operations(
     pairs: &Pairs<Doc>,
 ) -> Result<Vec<Row>, ModelFault>
     requires { length service.now.names.now.entries < 2 ^ 32 }
-    ensures { Gives (λ rows. rows.items) (operations_of service.now.names.now.entries service.now.shapes.now service.now.signs_by_v4 [] pairs.now) result }
+    ensures { Answers is_memory (λ rows. rows.items) result (operations_of service.now.names.now.entries service.now.shapes.now service.now.signs_by_v4 [] pairs.now) }
 {
     let mut rows = Vec::with_capacity(alloc, pairs.len())?;
     let mut commands = IndexSet::new(alloc);
@@ -77,7 +78,7 @@ fn read_operation(
     doc: &Doc,
 ) -> Result<Row, ModelFault>
     requires { length service.now.names.now.entries < 2 ^ 32 }
-    ensures { Gives (λ x. x) (operation_of service.now.names.now.entries service.now.shapes.now service.now.signs_by_v4 commands.now.keys doc.now) result }
+    ensures { Answers is_memory (λ x. x) result (operation_of service.now.names.now.entries service.now.shapes.now service.now.signs_by_v4 commands.now.keys doc.now) }
 {
     let fields = object(doc)?;
     let name = text_at(alloc, fields, "name")?;
@@ -107,7 +108,7 @@ fn read_operation(
 /// The command name of an operation, which no earlier one has.
 #[tactic(auto, unfolding(crate::specs::Operations::command_of))]
 fn read_command(alloc: Global, commands: &IndexSet<Text>, name: &Text) -> Result<Text, ModelFault>
-    ensures { Gives (λ x. x) (command_of commands.now.keys name.now) result }
+    ensures { Answers is_memory (λ x. x) result (command_of commands.now.keys name.now) }
 {
     let command = command_name(alloc, name)?;
     if commands.contains(&command) {
@@ -126,7 +127,7 @@ fn read_http<'a>(
     service: &Service,
     fields: &'a Pairs<Doc>,
 ) -> Result<(&'a Text, &'a Text), ModelFault>
-    ensures { Gives (λ x. (x.0.now, x.1.now)) (http_of service.now.names.now.entries service.now.shapes.now fields.now) result }
+    ensures { Answers is_memory (λ x. (x.0.now, x.1.now)) result (http_of service.now.names.now.entries service.now.shapes.now fields.now) }
 {
     let Some(http) = maybe_object(alloc, fields, "http")? else {
         return Err(missing_below(alloc, "http", "method"));
@@ -141,7 +142,7 @@ fn method_and_uri<'a>(
     fields: &Pairs<Doc>,
     http: &'a Pairs<Doc>,
 ) -> Result<(&'a Text, &'a Text), ModelFault>
-    ensures { Gives (λ x. (x.0.now, x.1.now)) (method_and_uri service.now.names.now.entries service.now.shapes.now fields.now http.now) result }
+    ensures { Answers is_memory (λ x. (x.0.now, x.1.now)) result (method_and_uri service.now.names.now.entries service.now.shapes.now fields.now http.now) }
 {
     let method = text_at(alloc, http, "method")?;
     let uri = labelled_uri(alloc, service, fields, http)?;
@@ -156,7 +157,7 @@ fn labelled_uri<'a>(
     fields: &Pairs<Doc>,
     http: &'a Pairs<Doc>,
 ) -> Result<&'a Text, ModelFault>
-    ensures { Gives (λ uri. uri.now) (uri_of service.now.names.now.entries service.now.shapes.now fields.now http.now) result }
+    ensures { Answers is_memory (λ uri. uri.now) result (uri_of service.now.names.now.entries service.now.shapes.now fields.now http.now) }
 {
     let uri = text_at(alloc, http, "requestUri")?;
     let labels = labels(alloc, uri)?;
@@ -175,7 +176,7 @@ fn read_host_prefix<'a>(
     service: &Service,
     fields: &'a Pairs<Doc>,
 ) -> Result<Option<&'a Text>, ModelFault>
-    ensures { Gives option_copied (host_prefix_of service.now.names.now.entries service.now.shapes.now fields.now) result }
+    ensures { Answers is_memory option_copied result (host_prefix_of service.now.names.now.entries service.now.shapes.now fields.now) }
 {
     let Some(endpoint) = maybe_object(alloc, fields, "endpoint")? else {
         return Ok(None);
@@ -194,7 +195,7 @@ fn labelled_prefix<'a>(
     fields: &Pairs<Doc>,
     endpoint: &'a Pairs<Doc>,
 ) -> Result<Option<&'a Text>, ModelFault>
-    ensures { Gives option_copied (endpoint_prefix (input_members service.now.names.now.entries service.now.shapes.now fields.now) endpoint.now) result }
+    ensures { Answers is_memory option_copied result (endpoint_prefix (input_members service.now.names.now.entries service.now.shapes.now fields.now) endpoint.now) }
 {
     let Some(prefix) = maybe_text(alloc, endpoint, "hostPrefix")? else {
         return Ok(None);
@@ -243,7 +244,7 @@ fn read_structure(
 ) -> Result<Option<ShapeId>, ModelFault>
     requires few { length names.now.entries < 2 ^ 32 }
     requires ascii { IsTrue (is_ascii_text key.now) }
-    ensures { Gives (λ x. x) (structure_at names.now.entries key.now fields.now) result }
+    ensures { Answers is_memory (λ x. x) result (structure_at names.now.entries key.now fields.now) }
 {
     let Some(doc) = fields.get(key) else {
         return Ok(None);

@@ -49,6 +49,8 @@ pub struct Shape {
     pub kind: Kind,
     /// The members of a structure.
     pub members: List<Member>,
+    /// Whether no two members are sent under one name.
+    pub has_own_wires: bool,
     /// The names of the members that a value must have.
     pub required: List<Text>,
     /// The name of the member that is the whole body.

@@ -1,17 +1,18 @@
 //! The shapes of a model.
 ghost use Rattle.std.specs.Prelude.{◌≡◌, ◌<◌, ◌^◌, ℕ, List as Seq, IsTrue, IfOk, bytes_eq, length};
-ghost use Rattle.std.specs.List.{All, list_any};
+ghost use Rattle.std.specs.List.{All, list_all, list_any};
 ghost use Rattle.texts.specs.Ascii.{is_ascii_text};
-ghost use Rattle.model_files.specs.Faults.{each_from, Gives};
+ghost use Rattle.texts.specs.Calls.{Answers};
+ghost use Rattle.model_files.specs.Faults.{each_from, is_memory};
 ghost use Rattle.service_model.specs.Kept.{HasOwnNames};
-ghost use Rattle.service_model.specs.Shapes.{kind_of_shape, names_member, names_in, name_among, member_list, required_of, payload_of, structure_of, structure_if, part_at, key_at, key_if, item_if, whole, least_of, shape_of, shapes_of};
+ghost use Rattle.service_model.specs.Shapes.{have_own_wires, kind_of_shape, names_member, names_in, name_among, member_list, required_of, payload_of, structure_of, structure_if, part_at, key_at, key_if, item_if, least_of, shape_of, shapes_of};
 
 use crate::choices::kind_named;
 use crate::members::{read_members, read_time};
 use crate::numbering::{Names, reference_in, string_in};
 use crate::{Kind, Member, Shape, ShapeId};
 use indexmap::IndexSet;
-use json_doc::{Decimal, Doc, List, OutOfMemory, Pair, Pairs, Text};
+use json_doc::{Doc, List, OutOfMemory, Pair, Pairs, Text};
 use model_files::{
     ModelFault, flag_at, inside, items, maybe_text, missing_below, move_to, object, object_at,
     text, text_at, wrong, wrong_kind,
@@ -25,7 +26,7 @@ pub fn read_shapes(
     pairs: &Pairs<Doc>,
 ) -> Result<List<Shape>, ModelFault>
     requires { length names.now.entries < 2 ^ 32 }
-    ensures value { Gives (λ x. x) (shapes_of names.now.entries pairs.now) result }
+    ensures value { Answers is_memory (λ x. x) result (shapes_of names.now.entries pairs.now) }
     ensures distinct { IfOk result (λ shapes. All (λ shape. HasOwnNames shape.members) shapes) }
 {
     let mut shapes = Vec::with_capacity(alloc, pairs.len())?;
@@ -39,7 +40,7 @@ pub fn read_shapes(
 #[tactic(auto, unfolding(crate::specs::Shapes::shape_of))]
 fn read_shape(alloc: Global, names: &Names, pair: &Pair<Doc>) -> Result<Shape, ModelFault>
     requires { length names.now.entries < 2 ^ 32 }
-    ensures value { Gives (λ x. x) (shape_of names.now.entries pair.now) result }
+    ensures value { Answers is_memory (λ x. x) result (shape_of names.now.entries pair.now) }
     ensures distinct { IfOk result (λ shape. HasOwnNames shape.members) }
 {
     let fields = object(&pair.value)?;
@@ -48,10 +49,12 @@ fn read_shape(alloc: Global, names: &Names, pair: &Pair<Doc>) -> Result<Shape, M
     let key = read_key_of(alloc, names, fields, kind)?;
     let item = read_item_of(alloc, names, fields, kind)?;
     let time = read_time(alloc, fields)?;
+    let has_own_wires = have_own_wires(alloc, structure.members.as_slice())?;
     Ok(Shape {
         name: pair.key.copy(alloc)?,
         kind,
         members: structure.members,
+        has_own_wires,
         required: structure.required,
         payload: structure.payload,
         min: least(fields),
@@ -65,9 +68,42 @@ fn read_shape(alloc: Global, names: &Names, pair: &Pair<Doc>) -> Result<Shape, M
     })
 }
 
+/// Whether no two members are sent under one name. No two have one name, so it is told at once
+/// where each is sent under its own.
+fn have_own_wires(alloc: Global, members: &[Member]) -> Result<bool, OutOfMemory>
+    requires { HasOwnNames members.now }
+    ensures { IfOk result (λ own. own ≡ have_own_wires members.now) }
+{
+    if keep_names(members) {
+        return Ok(true);
+    }
+    are_wires_new(alloc, members)
+}
+
+/// Whether each member is sent under its own name.
+fn keep_names(members: &[Member]) -> bool
+    ensures { result ≡ list_all (λ m. bytes_eq m.wire m.name) members.now }
+{
+    members.iter().all(|member| member.wire == member.name)
+}
+
+/// Whether no name under which a member is sent is that of an earlier one.
+fn are_wires_new(alloc: Global, members: &[Member]) -> Result<bool, OutOfMemory>
+    ensures { IfOk result (λ own. own ≡ have_own_wires members.now) }
+{
+    let mut wires = IndexSet::with_capacity(alloc, members.len())?;
+    for member in members {
+        if wires.contains(&member.wire) {
+            return Ok(false);
+        }
+        wires.insert(member.wire.copy(alloc)?)?;
+    }
+    Ok(true)
+}
+
 #[tactic(auto, unfolding(crate::specs::Shapes::kind_of_shape))]
 fn read_kind(alloc: Global, fields: &Pairs<Doc>) -> Result<Kind, ModelFault>
-    ensures { Gives (λ x. x) (kind_of_shape fields.now) result }
+    ensures { Answers is_memory (λ x. x) result (kind_of_shape fields.now) }
 {
     let name = text_at(alloc, fields, "type")?;
     match kind_named(name) {
@@ -96,7 +132,7 @@ fn read_structure_of(
     kind: Kind,
 ) -> Result<Structure, ModelFault>
     requires { length names.now.entries < 2 ^ 32 }
-    ensures value { Gives (λ x. x) (structure_if kind names.now.entries fields.now) result }
+    ensures value { Answers is_memory (λ x. x) result (structure_if kind names.now.entries fields.now) }
     ensures distinct { IfOk result (λ structure. HasOwnNames structure.members) }
 {
     match kind {
@@ -120,7 +156,7 @@ fn read_structure(
     fields: &Pairs<Doc>,
 ) -> Result<Structure, ModelFault>
     requires { length names.now.entries < 2 ^ 32 }
-    ensures value { Gives (λ x. x) (structure_of names.now.entries fields.now) result }
+    ensures value { Answers is_memory (λ x. x) result (structure_of names.now.entries fields.now) }
     ensures distinct { IfOk result (λ structure. HasOwnNames structure.members) }
 {
     let pairs = object_at(alloc, fields, "members")?;
@@ -149,7 +185,7 @@ fn read_required(
     fields: &Pairs<Doc>,
     members: &List<Member>,
 ) -> Result<List<Text>, ModelFault>
-    ensures { Gives (λ x. x) (required_of members.now fields.now) result }
+    ensures { Answers is_memory (λ x. x) result (required_of members.now fields.now) }
 {
     let Some(doc) = fields.get("required") else {
         return Ok(List::new(alloc));
@@ -160,7 +196,7 @@ fn read_required(
 /// A list of names of members.
 #[tactic(auto, unfolding(crate::specs::Shapes::member_list))]
 fn member_list(alloc: Global, doc: &Doc, members: &List<Member>) -> Result<List<Text>, ModelFault>
-    ensures { Gives (λ x. x) (member_list members.now doc.now) result }
+    ensures { Answers is_memory (λ x. x) result (member_list members.now doc.now) }
 {
     let items = items(doc)?;
     let names = member_names(alloc, members.as_slice())?;
@@ -173,7 +209,7 @@ fn names_listed(
     items: &[Doc],
     names: &IndexSet<Text>,
 ) -> Result<List<Text>, ModelFault>
-    ensures { Gives (λ x. x) (each_from (name_among names.now.keys) 0 items.now) result }
+    ensures { Answers is_memory (λ x. x) result (each_from (name_among names.now.keys) 0 items.now) }
 {
     let mut listed = List::new(alloc);
     for (at, item) in items.iter().enumerate() {
@@ -192,7 +228,7 @@ fn name_among<'a>(
     doc: &'a Doc,
     names: &IndexSet<Text>,
 ) -> Result<&'a Text, ModelFault>
-    ensures { Gives (λ name. name.now) (name_among names.now.keys doc.now) result }
+    ensures { Answers is_memory (λ name. name.now) result (name_among names.now.keys doc.now) }
 {
     let name = text(doc)?;
     if names.contains(name) {
@@ -221,7 +257,7 @@ fn read_payload(
     fields: &Pairs<Doc>,
     members: &List<Member>,
 ) -> Result<Option<Text>, ModelFault>
-    ensures { Gives (λ x. x) (payload_of members.now fields.now) result }
+    ensures { Answers is_memory (λ x. x) result (payload_of members.now fields.now) }
 {
     let Some(name) = maybe_text(alloc, fields, "payload")? else {
         return Ok(None);
@@ -254,7 +290,7 @@ fn read_item_of(
     kind: Kind,
 ) -> Result<Option<ShapeId>, ModelFault>
     requires { length names.now.entries < 2 ^ 32 }
-    ensures { Gives (λ x. x) (item_if kind names.now.entries fields.now) result }
+    ensures { Answers is_memory (λ x. x) result (item_if kind names.now.entries fields.now) }
 {
     match kind {
         Kind::List => Ok(Some(read_part(alloc, names, fields, "member")?)),
@@ -272,7 +308,7 @@ fn read_key_of(
     kind: Kind,
 ) -> Result<Option<ShapeId>, ModelFault>
     requires { length names.now.entries < 2 ^ 32 }
-    ensures { Gives (λ x. x) (key_if kind names.now.entries fields.now) result }
+    ensures { Answers is_memory (λ x. x) result (key_if kind names.now.entries fields.now) }
 {
     match kind {
         Kind::Map => Ok(Some(read_key(alloc, names, fields)?)),
@@ -289,7 +325,7 @@ fn read_part(
 ) -> Result<ShapeId, ModelFault>
     requires few { length names.now.entries < 2 ^ 32 }
     requires ascii { IsTrue (is_ascii_text key.now) }
-    ensures { Gives (λ x. x) (part_at names.now.entries key.now fields.now) result }
+    ensures { Answers is_memory (λ x. x) result (part_at names.now.entries key.now fields.now) }
 {
     let Some(doc) = fields.get(key) else {
         return Err(missing_below(alloc, key, "shape"));
@@ -301,7 +337,7 @@ fn read_part(
 #[tactic(auto, using(model_files::proofs::Each::gives_inside), unfolding(crate::specs::Shapes::key_at))]
 fn read_key(alloc: Global, names: &Names, fields: &Pairs<Doc>) -> Result<ShapeId, ModelFault>
     requires { length names.now.entries < 2 ^ 32 }
-    ensures { Gives (λ x. x) (key_at names.now.entries fields.now) result }
+    ensures { Answers is_memory (λ x. x) result (key_at names.now.entries fields.now) }
 {
     let Some(doc) = fields.get("key") else {
         return Err(missing_below(alloc, "key", "shape"));
@@ -315,23 +351,7 @@ fn least(fields: &Pairs<Doc>) -> Option<i64>
     ensures { result ≡ least_of fields.now }
 {
     match fields.get("min") {
-        Some(Doc::Number(number)) => whole(number),
+        Some(Doc::Number(number)) => number.whole(),
         _ => None,
     }
-}
-
-/// A decimal as a number in 64 bits, where it is one.
-pub fn whole(number: &Decimal) -> Option<i64>
-    ensures { result ≡ whole number.now }
-{
-    if number.scale != 0 {
-        return None;
-    }
-    let magnitude = i128::try_from(number.magnitude).ok()?;
-    let value = if number.is_negative {
-        -magnitude
-    } else {
-        magnitude
-    };
-    i64::try_from(value).ok()
 }

@@ -1,7 +1,8 @@
 //! How operations are signed.
 ghost use Rattle.std.specs.Prelude.{◌≡◌};
 ghost use Rattle.std.specs.Option.{option_copied};
-ghost use Rattle.model_files.specs.Faults.{Gives};
+ghost use Rattle.texts.specs.Calls.{Answers};
+ghost use Rattle.model_files.specs.Faults.{is_memory};
 ghost use Rattle.service_model.specs.Operations.{is_no_auth, has_v4, is_other_kind, is_unsigned, is_signed_otherwise, signing_of};
 
 use crate::metadata::{is_among, is_text};
@@ -24,7 +25,7 @@ pub fn read_signing(
     signs_by_v4: bool,
     fields: &Pairs<Doc>,
 ) -> Result<Signing, ModelFault>
-    ensures { Gives (λ x. x) (signing_of signs_by_v4 fields.now) result }
+    ensures { Answers is_memory (λ x. x) result (signing_of signs_by_v4 fields.now) }
 {
     let kind = maybe_text(alloc, fields, "authtype")?;
     let schemes = maybe_texts(alloc, fields, "auth")?;

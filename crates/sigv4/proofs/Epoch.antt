@@ -1,5 +1,5 @@
 -- The begin of 1970 is the moment 0.
-use Rattle.std.proofs.Common.{◌≡◌, ℕ, pos, ◌∙◌, refl}
+use Rattle.std.proofs.Common.{◌≡◌, pos, ◌∙◌, refl}
 use Rattle.jiff_core.specs.declared.civil.datetime.DateTime.{DateTime}
 use Rattle.jiff_core.specs.Date.{epoch_day}
 use Rattle.jiff_core.specs.DateTime.{civil_nanos}

@@ -1,12 +1,12 @@
 pub mod Appends
-pub mod Blanks
 pub mod Epoch
 pub mod Escapes
 pub mod HeaderSteps
 pub mod Listed
 pub mod Marks
+pub mod OneForms
 pub mod PathParts
 pub mod PlainDigits
-pub mod OneForms
 pub mod SortedPairs
 pub mod SortedSame
+pub mod Squeezed

@@ -1,6 +1,6 @@
 -- A message has one signed form at a moment: its texts, its query and its names are fixed.
-use Rattle.std.proofs.Common.{◌≡◌, ℕ, ℤ, List, ◌++◌, sym, ap, ◌∙◌, subst, ◌*ℤ◌, pos}
-use Rattle.std.specs.Prelude.{codes, encode_utf8_all, unsigned_abs, ◌/◌, ◌%◌, map, Contains, ◌↔◌}
+use Rattle.std.proofs.Common.{◌≡◌, ℕ, ℤ, List, ◌++◌, sym, ap, ◌∙◌, subst}
+use Rattle.std.specs.Prelude.{codes, encode_utf8_all, unsigned_abs, ◌/◌, ◌%◌}
 use Rattle.sha2.specs.Sha256.{sha256}
 use Rattle.hex.specs.Hex.{encode_lower}
 use Rattle.jiff_core.specs.declared.civil.datetime.DateTime.{DateTime}
@@ -14,7 +14,7 @@ use Rattle.sigv4.specs.Line.{line}
 use Rattle.sigv4.specs.Moment.{two_digits, date_text, moment_text}
 use Rattle.sigv4.specs.Headers.{canonical_headers, AreSignedNames, signed_headers}
 use Rattle.sigv4.specs.Canonical.{canonical_request}
-use Rattle.sigv4.specs.Signature.{with_header, with_token, stamped, keyed, authorized, IsSignedAt, IsSigned}
+use Rattle.sigv4.specs.Signature.{with_header, with_token, stamped, keyed, authorized}
 use Rattle.sigv4.specs.OneForm.{HasOneSignedForm}
 use Rattle.sigv4.proofs.SortedSame.{same_query, same_names}
 

@@ -1,21 +1,10 @@
 -- The headers that are signed: AWS's "Create a signed AWS API request", CanonicalHeaders and SignedHeaders.
-use Rattle.std.specs.Prelude.{ℕ, Bool, true, false, not, ◌==◌, ◌||◌, ◌&&◌, if◌then◌else◌, List, [], ◌∷◌, ◌++◌, map, filter, flat_map, reverse, codes, bytes_eq, AllPairs, Contains, ◌↔◌}
+use Rattle.std.specs.Prelude.{ℕ, Bool, true, false, not, ◌==◌, ◌&&◌, if◌then◌else◌, List, [], ◌∷◌, ◌++◌, map, filter, flat_map, codes, bytes_eq, AllPairs, Contains, ◌↔◌}
 use Rattle.std.specs.Char.{to_ascii_lowercase}
+use Rattle.texts.specs.Blanks.{trimmed}
 use Rattle.texts.specs.Joined.{joined}
 use Rattle.texts.specs.Order.{IsBefore}
 use Rattle.sigv4.specs.Line.{line}
-
--- a space or a tab
-abbrev pub is_blank : ℕ → Bool
-is_blank c = (c == 32) || (c == 9)
-
-abbrev pub without_first_blanks : List ℕ → List ℕ
-without_first_blanks [] = []
-without_first_blanks (c ∷ cs) = if is_blank c then without_first_blanks cs else c ∷ cs
-
--- without the blanks at both ends
-abbrev pub trimmed : List ℕ → List ℕ
-trimmed value = reverse (without_first_blanks (reverse (without_first_blanks value)))
 
 -- without the spaces that follow a space, where `after` says that a space stands before
 abbrev pub squeezed : Bool → List ℕ → List ℕ

@@ -1,5 +1,5 @@
 -- The canonical query: AWS's "Create a signed AWS API request", CanonicalQueryString.
-use Rattle.std.specs.Prelude.{ℕ, List, ◌++◌, ◌∷◌, map, codes, IsPermutation, IsSorted}
+use Rattle.std.specs.Prelude.{ℕ, List, ◌++◌, map, codes, IsPermutation, IsSorted}
 use Rattle.std.specs.Borrow.{Bor}
 use Rattle.std.specs.Str.{chars}
 use Rattle.std.specs.Ordering.{ordering_then}

@@ -1,4 +1,5 @@
 pub mod Ascending
+pub mod BlankEnds
 pub mod ByteOrder
 pub mod Keyed
 pub mod KeyedFronts

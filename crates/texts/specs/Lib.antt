@@ -1,4 +1,5 @@
 pub mod Ascii
+pub mod Blanks
 pub mod Calls
 pub mod Characters
 pub mod Joined

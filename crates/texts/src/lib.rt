@@ -2,6 +2,7 @@
 //! as lists, and the words in which contracts speak of them.
 #![tactic(auto)]
 
+mod blanks;
 mod bytes;
 mod list;
 mod memory;
@@ -9,6 +10,7 @@ mod order;
 mod pairs;
 mod text;
 
+pub use blanks::trimmed;
 pub use bytes::Bytes;
 pub use list::List;
 pub use memory::OutOfMemory;

@@ -11,7 +11,8 @@ use Rattle.json_doc.specs.Grammar.{put_all}
 use Rattle.service_model.specs.declared.shape.Member.{Member}
 use Rattle.service_model.specs.declared.shape.Shape.{Shape}
 use Rattle.service_model.specs.declared.shape.ShapeId.{ShapeId}
-use Rattle.service_model.specs.Shapes.{names_in, whole}
+use Rattle.service_model.specs.Shapes.{names_in}
+use Rattle.json_doc.specs.DecimalValue.{whole}
 use Rattle.texts.specs.declared.pairs.Pair.{Pair}
 use Rattle.texts.specs.Keys.{IsDistinct, put}
 use Rattle.typed_value.specs.declared.typed.Typed.{Typed, out-Typed, map-Typed}

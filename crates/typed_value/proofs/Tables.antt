@@ -9,7 +9,8 @@ use Rattle.typed_value.specs.declared.node.Node.{Node}
 use Rattle.typed_value.specs.declared.typed.Typed.{Typed, out-Typed, map-Typed}
 use Rattle.typed_value.specs.declared.typed.Typed.TheOpen.{Typed-F}
 use Rattle.typed_value.specs.declared.typed.Typed.TheFolds.{fold_out-Typed}
-use Rattle.typed_value.specs.Tables.{parts_in, count_step, count_of, AreNodes, root_of, IsTable, IsTableOf, AddsNodes}
+use Rattle.typed_value.specs.Inside.{IsTableOf, AddsNodes}
+use Rattle.typed_value.specs.Tables.{parts_in, count_step, count_of, AreNodes, root_of, IsTable}
 
 -- how many nodes these values have
 abbrev pub size_of : List Typed → ℕ

@@ -1,5 +1,6 @@
 pub mod Faults
 pub mod Fits
+pub mod Inside
 pub mod Kinds
 pub mod Laws
 pub mod Lines

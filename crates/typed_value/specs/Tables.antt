@@ -35,12 +35,3 @@ root_of (n ∷ ns) = n.value.now
 -- the nodes of one value
 abbrev pub IsTable : List Node → Type 0
 IsTable ns = AreNodes ns (root_of ns ∷ [])
-
-abbrev pub IsTableOf : List Node → Typed → Type 0
-IsTableOf ns v = IsTable ns × (root_of ns ≡ v)
-
--- the nodes of these values were put behind others
-pub record AddsNodes (old : List Node) (values : List Typed) (new : List Node) : Type 0 where
-  pub added : List Node
-  pub whole : new ≡ old ++ added
-  pub nodes : AreNodes added values

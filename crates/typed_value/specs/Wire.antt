@@ -10,7 +10,7 @@ use Rattle.json_doc.specs.Grammar.{put_all}
 use Rattle.service_model.specs.declared.shape.Member.{Member}
 use Rattle.service_model.specs.declared.shape.Shape.{Shape}
 use Rattle.service_model.specs.declared.shape.ShapeId.{ShapeId}
-use Rattle.service_model.specs.Shapes.{whole}
+use Rattle.json_doc.specs.DecimalValue.{whole}
 use Rattle.texts.specs.declared.pairs.Pair.{Pair}
 use Rattle.typed_value.specs.declared.typed.Typed.{Typed}
 use Rattle.typed_value.specs.declared.typed.Typed.TheVariants as typed

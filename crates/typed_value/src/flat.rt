@@ -1,6 +1,7 @@
 ghost use Rattle.std.specs.Prelude.{◌≡◌, ◌∷◌, [], IfOk, OnOk, map};
 ghost use Rattle.typed_value.specs.declared.typed.Typed.{out-Typed};
-ghost use Rattle.typed_value.specs.Tables.{count_of, root_of, parts_in, IsTable, AddsNodes};
+ghost use Rattle.typed_value.specs.Inside.{AddsNodes};
+ghost use Rattle.typed_value.specs.Tables.{count_of, root_of, parts_in, IsTable};
 
 use crate::Typed;
 use crate::node::Node;

@@ -1,6 +1,7 @@
 ghost use Rattle.std.specs.Prelude.{◌≤◌, ◌+◌, ◌∷◌, List as Seq, length, drop};
 ghost use Rattle.typed_value.specs.declared.typed.Typed.{Typed as Value};
-ghost use Rattle.typed_value.specs.Tables.{AreNodes, IsTableOf};
+ghost use Rattle.typed_value.specs.Inside.{IsTableOf};
+ghost use Rattle.typed_value.specs.Tables.{AreNodes};
 
 use crate::Typed;
 

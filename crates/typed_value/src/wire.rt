@@ -2,7 +2,7 @@
 ghost use Rattle.std.specs.Prelude.{◌≡◌, ◌<◌, length, map, if◌then◌else◌, option_map, option_and_then, All, Contains, IfOk, IfSome, IsTrue};
 ghost use Rattle.std.specs.Option.{option_copied};
 ghost use Rattle.json_doc.specs.declared.doc.Doc.{out-Doc};
-ghost use Rattle.service_model.specs.Shapes.{whole};
+ghost use Rattle.json_doc.specs.DecimalValue.{whole};
 ghost use Rattle.typed_value.specs.declared.typed.Typed.{out-Typed};
 ghost use Rattle.typed_value.specs.declared.typed.Typed.TheVariants as typed;
 ghost use Rattle.typed_value.specs.Fits.{with_values};
@@ -13,7 +13,7 @@ ghost use Rattle.typed_value.specs.Wire.{member_sent_as, items_read, entries_rea
 use crate::Typed;
 use crate::kinds::{is_boolean, is_list, is_map, is_string, is_structure, is_whole};
 use json_doc::{Decimal, Doc, List, OutOfMemory, Pair, Pairs, Text};
-use service_model::{Member, Model, Shape, ShapeId, whole};
+use service_model::{Member, Model, Shape, ShapeId};
 use std::alloc::Global;
 
 /// The value of a page token for a shape: a document whose parts have their kinds, with members under
@@ -58,7 +58,7 @@ fn number_of(shape: &Shape, n: &Decimal) -> Option<Typed>
     if !is_whole(shape.kind) {
         return None;
     }
-    match whole(n) {
+    match n.whole() {
         Some(n) => Some(Typed::Int(n)),
         None => None,
     }

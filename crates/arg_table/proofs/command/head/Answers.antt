@@ -1,6 +1,6 @@
 use Rattle.std.proofs.Common.{ap, sym, ◌∙◌, Ok}
 use Rattle.arg_table.specs.Heads.{Next, head_with, next_word}
-use Rattle.arg_table.specs.Steps.{next_after}
+use Rattle.arg_table.specs.Inside.{next_after}
 use Rattle.arg_table.specs.Words.{cut}
 use Rattle.arg_table.proofs.Heading.{whole_head}
 use Rattle.arg_table.proofs.command.head.Goals as goal

@@ -1,6 +1,6 @@
 use Rattle.std.proofs.Common.{ap, sym, subst, ◌∙◌, Ok}
 use Rattle.arg_table.specs.Heads.{next_word}
-use Rattle.arg_table.specs.Steps.{TakesSetting, next_after}
+use Rattle.arg_table.specs.Inside.{TakesSetting, next_after}
 use Rattle.arg_table.specs.Words.{cut}
 use Rattle.arg_table.proofs.Found.{next_goes}
 use Rattle.arg_table.proofs.command.next_word.Goals as goal

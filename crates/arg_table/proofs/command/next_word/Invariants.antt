@@ -1,6 +1,6 @@
 use Rattle.std.proofs.Common.{◌≡◌, length}
 use Rattle.arg_table.specs.Heads.{next_word}
-use Rattle.arg_table.specs.Steps.{next_after}
+use Rattle.arg_table.specs.Inside.{next_after}
 use Rattle.arg_table.specs.Words.{cut}
 use Rattle.arg_table.proofs.command.next_word.Given as goal
 

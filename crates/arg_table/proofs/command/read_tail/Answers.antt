@@ -1,6 +1,6 @@
 use Rattle.std.proofs.Common.{ap, sym, subst, ◌∙◌, Ok}
 use Rattle.arg_table.specs.Heads.{tail_of}
-use Rattle.arg_table.specs.Steps.{TakesSetting, tail_after}
+use Rattle.arg_table.specs.Inside.{TakesSetting, tail_after}
 use Rattle.arg_table.specs.Words.{cut}
 use Rattle.arg_table.proofs.Tailing.{tail_setting}
 use Rattle.arg_table.proofs.command.read_tail.Goals as goal

@@ -1,6 +1,6 @@
 use Rattle.std.proofs.Common.{◌≡◌, [], length}
 use Rattle.arg_table.specs.Heads.{tail_of}
-use Rattle.arg_table.specs.Steps.{tail_after}
+use Rattle.arg_table.specs.Inside.{tail_after}
 use Rattle.arg_table.specs.Words.{cut}
 use Rattle.arg_table.proofs.command.read_tail.Given as goal
 

@@ -2,7 +2,8 @@ use Rattle.std.proofs.Common.{nat_eq, bytes_eq, if◌then◌else◌, Some, None,
 use Rattle.std.specs.Cmp.Lexicographic.{pointwise}
 use Rattle.indexmap.specs.IndexMap.{get}
 use Rattle.service_model.specs.Arguments.{negation_of}
-use Rattle.arg_table.specs.Tables.{meant_by, or_meant}
+use Rattle.arg_table.specs.Tables.{meant_by}
+use Rattle.arg_table.specs.Inside.{or_meant}
 use Rattle.arg_table.proofs.Naming.{named_both, named_once}
 use Rattle.arg_table.proofs.meaning.add_names.Goals as goal
 

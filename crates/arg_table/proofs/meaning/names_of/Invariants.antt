@@ -1,5 +1,5 @@
 use Rattle.std.proofs.Common.{take}
-use Rattle.arg_table.specs.Tables.{IsNamed}
+use Rattle.arg_table.specs.Inside.{IsNamed}
 use Rattle.arg_table.proofs.meaning.names_of.Given as goal
 
 abbrev pub invariant-loop-argument : goal.invariant-loop-argument

@@ -4,7 +4,7 @@ use Rattle.std.proofs.StrCases.{chars_of_empty}
 use Rattle.std.specs.Str.{chars}
 use Rattle.std.specs.Str.Iter.{chars_rest}
 use Rattle.sigv4.specs.Headers.{squeezed}
-use Rattle.sigv4.proofs.Blanks.{drops, keeps}
+use Rattle.sigv4.proofs.Squeezed.{drops, keeps}
 use Rattle.sigv4.proofs.header_values.canonical_value.Goals as goal
 
 pub loop-c-preserved-then-repeats_space : goal.loop-c-preserved-then-repeats_space

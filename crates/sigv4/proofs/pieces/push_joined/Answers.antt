@@ -1,6 +1,5 @@
-use Rattle.std.proofs.Common.{rules, ◌≡◌, ◌+◌, ◌++◌, drop, sym, ap, ◌∙◌}
-use Rattle.std.proofs.lemmas.List.{at_drop_more}
-use Rattle.sigv4.proofs.Marks.{behind, behind_nothing, one_more}
+use Rattle.std.proofs.Common.{rules, ◌++◌, ap}
+use Rattle.sigv4.proofs.Marks.{behind_nothing}
 use Rattle.sigv4.proofs.pieces.push_joined.Goals as goal
 
 pub loop-text-init : goal.loop-text-init

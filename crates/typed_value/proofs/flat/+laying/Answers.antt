@@ -1,7 +1,8 @@
 use Rattle.std.proofs.Common.{◌<◌, map, length, refl, ◌-◌, sym, ap, subst, ◌∙◌}
 use Rattle.std.proofs.lemmas.List.{length-map, get_or-map}
 use Rattle.typed_value.specs.declared.typed.Typed.{out-Typed}
-use Rattle.typed_value.specs.Tables.{parts_in, AddsNodes}
+use Rattle.typed_value.specs.Inside.{AddsNodes}
+use Rattle.typed_value.specs.Tables.{parts_in}
 use Rattle.typed_value.proofs.Tables.{adds-next, adds-own}
 use Rattle.typed_value.proofs.flat.+laying.Goals as goal
 

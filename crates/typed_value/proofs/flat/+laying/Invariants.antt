@@ -1,7 +1,7 @@
 use Rattle.std.proofs.Common.{◌+◌, ◌*◌, take, map}
 use denote.Param.Weighed.{most}
 use Rattle.typed_value.specs.declared.typed.Typed.{size-Typed}
-use Rattle.typed_value.specs.Tables.{AddsNodes}
+use Rattle.typed_value.specs.Inside.{AddsNodes}
 use Rattle.typed_value.proofs.flat.+laying.Given as goal
 
 abbrev pub decreases-lay : goal.decreases-lay

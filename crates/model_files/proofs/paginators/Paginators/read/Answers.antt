@@ -1,4 +1,3 @@
-use Rattle.std.specs.Str.{chars}
 use Rattle.model_files.specs.Paginators.{rows_of}
 use Rattle.model_files.proofs.Each.{due_ok}
 use Rattle.model_files.proofs.WholeRows.{pager_rows_whole}

@@ -1,4 +1,3 @@
-use Rattle.std.specs.Str.{chars}
 use Rattle.model_files.specs.Faults.{each}
 use Rattle.model_files.specs.Waiters.{row_of}
 use Rattle.model_files.proofs.Each.{due_ok}

@@ -1,13 +1,13 @@
 -- Blanks at the ends of texts, by their bytes.
-use Rattle.std.proofs.Common.{◌≡◌, ◌≢◌, ℕ, ◌<◌, ◌≤◌, length, take, subst, arith, ◌==◌, ◌||◌, ◌&&◌, Bool, true, false, List, [], ◌∷◌, ◌++◌, reverse, refl, sym, ap, ◌∙◌, lit<, ⊎_elim, ◌⊎◌, Option, None, Some, Bor, if◌then◌else◌}
+use Rattle.std.proofs.Common.{◌≡◌, ◌≢◌, ℕ, ◌<◌, ◌≤◌, length, take, subst, arith, ◌==◌, ◌||◌, true, false, List, [], ◌∷◌, ◌++◌, reverse, refl, sym, ap, ◌∙◌, lit<, ⊎_elim, Option, None, Some, Bor, if◌then◌else◌}
 use Rattle.std.specs.Prelude.{encode_utf8_all, MatchOption, IfSome, IfNone}
 use Rattle.std.specs.Str.{chars, IsUtf8}
-use Rattle.std.proofs.lemmas.Bool.{cond-true, cond-false}
+use Rattle.std.proofs.lemmas.Bool.{cond-false}
 use Rattle.std.proofs.lemmas.Bool.Decides.{eqb_tells}
 use Rattle.std.proofs.lemmas.List.{take-append-le, take_all, reverse-append, reverse-reverse}
 use Rattle.std.proofs.lemmas.Str.{chars-IsAscii, IsUtf8-from_ascii, IsUtf8-take, IsCharBoundary-at_seam, chars-append, chars_past_char, encodes-chars, encodes-append, encode_ascii}
 use Rattle.std.proofs.lemmas.Str.Ascii.{IsAscii-nil, IsAscii-cons}
-use Rattle.sigv4.specs.Headers.{is_blank, without_first_blanks, squeezed}
+use Rattle.texts.specs.Blanks.{is_blank, without_first_blanks}
 
 -- a text that begins with a character of ASCII
 pub first_gone : (c : ℕ) (bs rest : List ℕ) → IsUtf8 bs → c < 128 → bs ≡ c ∷ rest → chars bs ≡ c ∷ chars rest
@@ -88,12 +88,3 @@ without_blank c cs rest blank is = ap without_first_blanks is ∙ ap (λ b. if b
 -- nor does one at the end
 pub without_last_blank : (c : ℕ) (cs front : List ℕ) → is_blank c ≡ true → cs ≡ front ++ c ∷ [] → without_first_blanks (reverse cs) ≡ without_first_blanks (reverse front)
 without_last_blank c cs front blank is = without_blank c (reverse cs) (reverse front) blank (ap reverse is ∙ reverse-append front (c ∷ []))
-
--- a space behind a space is dropped
-pub drops : (behind : Bool) (c : ℕ) (cs : List ℕ) → (behind && (c == 32)) ≡ true → squeezed behind cs ≡ squeezed behind (c ∷ cs)
-drops true c cs h = sym (cond-true (c == 32) (squeezed true cs) (c ∷ squeezed (c == 32) cs) h)
-drops false c cs h = cc
-
--- another character stays
-pub keeps : (behind : Bool) (c : ℕ) (cs : List ℕ) → (behind && (c == 32)) ≡ false → c ∷ squeezed (c == 32) cs ≡ squeezed behind (c ∷ cs)
-keeps behind c cs h = sym (cond-false (behind && (c == 32)) (squeezed true cs) (c ∷ squeezed (c == 32) cs) h)
