@@ -21,7 +21,7 @@ impl<'a> RealFiles<'a> {
 }
 
 impl Files for RealFiles<'_> {
-    ghost holds = { λ _. None };
+    ghost told = { λ _. None };
 
     ghost faults = { λ files. files.faults };
 

@@ -18,7 +18,7 @@ impl<W: Write> StreamSink<W> {
 }
 
 impl<W: Write> Sink for StreamSink<W> {
-    ghost taken = { λ _. None };
+    ghost told = { λ _. None };
 
     ghost faults = { λ sink. sink.faults };
 

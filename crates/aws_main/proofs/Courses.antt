@@ -1,7 +1,7 @@
 -- The courses of a command, put together from its parts.
 use Rattle.std.proofs.Common.{◌≡◌, ℕ, List, Option, None, Some, Result, Ok, Err, refl, sym, ap, ◌∙◌, subst, ◌⊎◌, inl, inr, ⊎_elim}
 use Rattle.std.specs.Prelude.{IfErr, IfSome}
-use Rattle.aws_world.specs.Connection.{Connection}
+use Rattle.aws_world.specs.declared.connection.Connection.{Connection}
 use Rattle.aws_world.specs.Told.{Tells}
 use Rattle.http_reply.specs.declared.outcome.Outcome.{Outcome}
 use Rattle.http_reply.specs.declared.outcome.Outcome.TheVariants.{Whole, Lost, Cut, Malformed, TooLarge, OutOfMemory as outcome_no_memory}

@@ -21,7 +21,8 @@ use Rattle.aws_main.specs.Plain.{plain_operation}
 use Rattle.aws_main.specs.Request.{message_of}
 use Rattle.aws_main.specs.Causes.{FaultsAt, HasFileCause, unread_of}
 use Rattle.aws_main.specs.Course.{IsPlanned, IsRefusal}
-use Rattle.aws_main.specs.Due.{IsDue, IsDueFor, admitted, due_by, known, request_for, request_of, unless_refused, Answers}
+use Rattle.aws_main.specs.Due.{IsDue, IsDueFor, admitted, due_by, known, request_for, request_of, unless_refused, is_memory}
+use Rattle.texts.specs.Calls.{Answers}
 use Rattle.aws_main.specs.Folder.{Held, folders_of, IsLookedAt, IsNewest}
 use Rattle.aws_main.specs.Models.{IsModelIn, IsModelOfFile, IsModelOfNewest, IsSought, UnlessMemory}
 use Rattle.aws_main.specs.Words.{asked_of}
@@ -66,13 +67,13 @@ due_no_file asked model path e = known_no_file asked model (operation_named aske
 
 -- the request that the model has
 pub planned_by : (words : List (List ℕ)) (env : Held) (held : Option Held) (asked : Asked) (model : Table) (answer : Result Planned Unread) → asked_of words ≡ Some asked
-    → IsSought env held asked.service (Ok model) → Answers (λ planned. planned) (due_by asked model) answer → IfOk answer (IsPlanned words env held)
+    → IsSought env held asked.service (Ok model) → Answers is_memory (λ planned. planned) answer (due_by asked model) → IfOk answer (IsPlanned words env held)
 planned_by words env held asked model (Ok planned) is sought due = due_for words env held asked (Ok planned) is (Ok model, sought, sym due)
 planned_by words env held asked model (Err refusal) is sought due = tt
 
 -- why the model has none
 pub refused_by : (words : List (List ℕ)) (env : Held) (held : Option Held) (asked : Asked) (model : Table) (answer : Result Planned Unread) → asked_of words ≡ Some asked
-    → IsSought env held asked.service (Ok model) → Answers (λ planned. planned) (due_by asked model) answer → IfErr answer (IsRefusal words env held)
+    → IsSought env held asked.service (Ok model) → Answers is_memory (λ planned. planned) answer (due_by asked model) → IfErr answer (IsRefusal words env held)
 refused_by words env held asked model (Ok planned) is sought due = tt
 refused_by words env held asked model (Err OutOfMemory) is sought due = tt
 refused_by words env held asked model (Err (FileFault path)) is sought due = absurd (due_no_file asked model path due)
@@ -83,7 +84,7 @@ refused_by words env held asked model (Err (NotAdmitted reason)) is sought due =
 
 -- then no file is at fault
 pub no_file_by : (asked : Asked) (model : Table) (answer : Result Planned Unread) (before now : ℕ) → before ≤ now
-    → Answers (λ planned. planned) (due_by asked model) answer → HasFileCause before now answer
+    → Answers is_memory (λ planned. planned) answer (due_by asked model) → HasFileCause before now answer
 no_file_by asked model (Ok planned) before now later due = record { later = later; failed = tt }
 no_file_by asked model (Err OutOfMemory) before now later due = record { later = later; failed = λ fault. absurd fault }
 no_file_by asked model (Err (FileFault path)) before now later due = record { later = later; failed = λ fault. absurd (due_no_file asked model path due) }

@@ -1,6 +1,6 @@
 -- The course of a command, from its words to its output.
 use Rattle.std.specs.Prelude.{◌≡◌, ◌⊎◌, ℕ, false, List, ◌++◌, Option, Some, Result, Ok, Err, encode_utf8_all}
-use Rattle.aws_world.specs.Connection.{Connection}
+use Rattle.aws_world.specs.declared.connection.Connection.{Connection}
 use Rattle.http_reply.specs.declared.outcome.Outcome.{Outcome}
 use Rattle.http_reply.specs.declared.outcome.Outcome.TheVariants.{Whole, Lost, Cut, Malformed, TooLarge, OutOfMemory as outcome_no_memory}
 use Rattle.http_exchange.specs.Exchange.{AddsExchange}

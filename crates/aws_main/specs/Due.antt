@@ -1,5 +1,5 @@
 -- What is due of the words of a line and the files: a request, or why there is none.
-use Rattle.std.specs.Prelude.{◌≡◌, ℕ, List, Option, None, Some, Result, Ok, Err}
+use Rattle.std.specs.Prelude.{◌≡◌, ℕ, Bool, true, false, List, Option, None, Some, Result, Ok, Err}
 use Rattle.service_model.specs.declared.model.Table.{Table}
 use Rattle.service_model.specs.declared.operation.Operation.{Operation}
 use Rattle.service_model.specs.declared.operation.Refusal.{Refusal}
@@ -58,8 +58,7 @@ IsDueFor (Some asked) env held due = (model : Result Table Unread) × IsModelOf 
 abbrev pub IsDue : List (List ℕ) → Held → Option Held → Result Planned Unread → Type 0
 IsDue words env held due = IsDueFor (asked_of words) env held due
 
--- the answer is what is due, seen by a view; want of memory is free
-abbrev pub Answers : {T U : Type 0} → (T → U) → Result U Unread → Result T Unread → Type 0
-Answers view due (Ok x) = due ≡ Ok (view x)
-Answers view due (Err OutOfMemory) = Unit {0}
-Answers view due (Err refusal) = due ≡ Err refusal
+-- want of memory, which is free
+abbrev pub is_memory : Unread → Bool
+is_memory OutOfMemory = true
+is_memory refusal = false

@@ -11,7 +11,7 @@ use Rattle.json_doc.specs.Grammar.{Reads, put_all}
 use Rattle.json_doc.specs.Indented.{indented_of}
 use Rattle.texts.specs.Keys.{value_at}
 use Rattle.aws_world.specs.declared.message.Reply.{Reply}
-use Rattle.http_reply.specs.Fields.{header_of}
+use Rattle.aws_world.specs.Headers.{header_of}
 use Rattle.aws_main.specs.declared.plain_operations.PlainMember.{PlainMember}
 use Rattle.aws_main.specs.declared.plain_operations.PlainOperation.{PlainOperation}
 use Rattle.aws_main.specs.Finding.{◌>>=◌, when}

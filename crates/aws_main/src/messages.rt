@@ -17,7 +17,7 @@ const USAGE: &[u8] =
 /// Writes a cause's message: an empty line, its text and a line end, and nothing where all of the
 /// work was done. A fault of the sink ends the writing and changes nothing else. It takes no memory.
 pub fn say<E: Sink>(err: &mut E, cause: &Cause, words: &[Text])
-    ensures says { Tells (E.taken err.old) (E.taken err.new)
+    ensures says { Tells (E.told err.old) (E.told err.new)
         (Says (Rose (E.faults err.old) (E.faults err.new)) (message_bytes words.now cause.now)) }
     ensures later { E.faults err.old ≤ E.faults err.new }
 {
@@ -25,9 +25,9 @@ pub fn say<E: Sink>(err: &mut E, cause: &Cause, words: &[Text])
 }
 
 fn write_message<E: Sink>(err: &mut E, cause: &Cause, words: &[Text]) -> Result<(), SinkFault>
-    ensures ok { OnOk result (Tells (E.taken err.old) (E.taken err.new)
+    ensures ok { OnOk result (Tells (E.told err.old) (E.told err.new)
         (λ before after. after ≡ before ++ message_bytes words.now cause.now)) }
-    ensures err { OnErr result (Tells (E.taken err.old) (E.taken err.new)
+    ensures err { OnErr result (Tells (E.told err.old) (E.told err.new)
         (GainsFront (message_bytes words.now cause.now))) }
     ensures cause { HasCause (E.faults err.old) (E.faults err.new) result }
 {
@@ -63,9 +63,9 @@ fn unknown_name(fault: &UsageFault) -> &str
 
 /// Writes that a model file has a fault at a place.
 fn write_bad_model<E: Sink>(err: &mut E, file: &str, place: &str) -> Result<(), SinkFault>
-    ensures ok { OnOk result (Tells (E.taken err.old) (E.taken err.new)
+    ensures ok { OnOk result (Tells (E.told err.old) (E.told err.new)
         (λ old new. new ≡ old ++ bad_model_around file.now place.now)) }
-    ensures err { OnErr result (Tells (E.taken err.old) (E.taken err.new)
+    ensures err { OnErr result (Tells (E.told err.old) (E.told err.new)
         (GainsFront (bad_model_around file.now place.now))) }
     ensures cause { HasCause (E.faults err.old) (E.faults err.new) result }
 {
@@ -119,9 +119,9 @@ fn write_around<E: Sink>(
     text: &str,
     after: &[u8],
 ) -> Result<(), SinkFault>
-    ensures ok { OnOk result (Tells (E.taken err.old) (E.taken err.new)
+    ensures ok { OnOk result (Tells (E.told err.old) (E.told err.new)
         (λ old new. new ≡ old ++ (before.now ++ (text.now ++ after.now)))) }
-    ensures err { OnErr result (Tells (E.taken err.old) (E.taken err.new)
+    ensures err { OnErr result (Tells (E.told err.old) (E.told err.new)
         (GainsFront (before.now ++ (text.now ++ after.now)))) }
     ensures cause { HasCause (E.faults err.old) (E.faults err.new) result }
 {

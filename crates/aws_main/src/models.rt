@@ -22,8 +22,8 @@ pub fn find_model<F: Files>(
     files: &mut F,
     service: &Text,
 ) -> Result<Model, Unread>
-    ensures found { IsSought env.now.pairs (F.holds files.old) service.now result }
-    ensures kept { F.holds files.new ≡ F.holds files.old }
+    ensures found { IsSought env.now.pairs (F.told files.old) service.now result }
+    ensures kept { F.told files.new ≡ F.told files.old }
     ensures cause { HasFileCause (F.faults files.old) (F.faults files.new) result }
 {
     let folders = model_folders(alloc, env)?;

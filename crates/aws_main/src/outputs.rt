@@ -4,15 +4,14 @@ ghost use Rattle.std.specs.Option.{option_copied};
 ghost use Rattle.std.specs.Str.{str_eq_ignore_ascii_case};
 ghost use Rattle.texts.specs.Ascii.{is_ascii_text};
 ghost use Rattle.json_doc.specs.Grammar.{put_all};
-ghost use Rattle.http_reply.specs.Fields.{header_of};
+ghost use Rattle.aws_world.specs.Headers.{header_of};
 ghost use Rattle.aws_main.specs.declared.causes.Unbuilt.TheVariants.{OutOfMemory as no_memory};
 ghost use Rattle.aws_main.specs.Finding.{Finds};
 ghost use Rattle.aws_main.specs.Output.{IsBodyText, IsOutput, fields_of, has_kind, is_plain_body, is_text, known_of, printed, text_of_body};
 
 use crate::causes::Unbuilt;
 use crate::plain_operations::{PlainMember, PlainOperation};
-use aws_world::Reply;
-use http_reply::header;
+use aws_world::{Reply, header};
 use json_doc::{Doc, List, OutOfMemory, Pairs, ReadFault, Text, copy, indented, read};
 use std::alloc::Global;
 

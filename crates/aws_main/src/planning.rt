@@ -1,7 +1,8 @@
 ghost use Rattle.std.specs.Prelude.{◌≡◌, IfOk, IfErr};
 ghost use Rattle.aws_main.specs.Causes.{HasFileCause, Refuses};
 ghost use Rattle.aws_main.specs.Course.{IsPlanned, IsRefusal};
-ghost use Rattle.aws_main.specs.Due.{admitted, due_by, Answers};
+ghost use Rattle.texts.specs.Calls.{Answers};
+ghost use Rattle.aws_main.specs.Due.{admitted, due_by, is_memory};
 
 use crate::asking::{Asked, read_words};
 use crate::causes::{Unread, UsageFault};
@@ -29,9 +30,9 @@ pub fn plan<F: Files>(
     env: &Env,
     files: &mut F,
 ) -> Result<Planned, Unread>
-    ensures planned { IfOk result (IsPlanned words.now env.now.pairs (F.holds files.old)) }
-    ensures refused { IfErr result (IsRefusal words.now env.now.pairs (F.holds files.old)) }
-    ensures kept { F.holds files.new ≡ F.holds files.old }
+    ensures planned { IfOk result (IsPlanned words.now env.now.pairs (F.told files.old)) }
+    ensures refused { IfErr result (IsRefusal words.now env.now.pairs (F.told files.old)) }
+    ensures kept { F.told files.new ≡ F.told files.old }
     ensures cause { HasFileCause (F.faults files.old) (F.faults files.new) result }
 {
     let asked = match read_words(alloc, words) {
@@ -47,7 +48,7 @@ pub fn plan<F: Files>(
 
 /// The request of what is asked for, by the service's model.
 fn request(alloc: Global, asked: Asked, model: &Model) -> Result<Planned, Unread>
-    ensures { Answers (λ planned. planned) (due_by asked model.now) result }
+    ensures { Answers is_memory (λ planned. planned) result (due_by asked model.now) }
 {
     let operation = match admitted(alloc, &asked.command, model) {
         Ok(operation) => operation,
@@ -67,7 +68,7 @@ fn request(alloc: Global, asked: Asked, model: &Model) -> Result<Planned, Unread
 
 /// The operation of a command, where it can be called.
 fn admitted<'a>(alloc: Global, command: &Text, model: &'a Model) -> Result<&'a Operation, Unread>
-    ensures { Answers (λ operation. operation.now) (admitted command.now model.now) result }
+    ensures { Answers is_memory (λ operation. operation.now) result (admitted command.now model.now) }
 {
     let Some(operation) = model.operation(command) else {
         return Err(unknown_operation(alloc, command));

@@ -30,16 +30,16 @@ pub fn run<F: Files, L: Link, C: Clock, D: Dice, O: Sink, E: Sink>(
     ensures none_live { L.live link.new ≡ false }
 
     // What was sent, why it ended and what was printed are those of one course of the line.
-    ensures course { (course : Course) × IsCourse words.now env.now.pairs (F.holds files.old) course
+    ensures course { (course : Course) × IsCourse words.now env.now.pairs (F.told files.old) course
         × EndsIn course result.cause
         × Tells (L.told link.old) (L.told link.new) (Connects course)
-        × Tells (O.taken out.old) (O.taken out.new) (Prints course result.cause) }
-    ensures says { Tells (E.taken err.old) (E.taken err.new)
+        × Tells (O.told out.old) (O.told out.new) (Prints course result.cause) }
+    ensures says { Tells (E.told err.old) (E.told err.new)
         (Says (Rose (E.faults err.old) (E.faults err.new)) (message_bytes words.now result.cause)) }
 
     // Where nothing keeps the command from its end, and neither a file nor standard output fails, it is
     // done.
-    ensures complete { IfSome (F.holds files.old) (λ held. IfSome (L.told link.old) (λ before. IfSome (L.told link.new) (λ after.
+    ensures complete { IfSome (F.told files.old) (λ held. IfSome (L.told link.old) (λ before. IfSome (L.told link.new) (λ after.
         IsUnhindered words.now env.now.pairs (Some held) before after
         → ¬ Rose (F.faults files.old) (F.faults files.new) → ¬ Rose (O.faults out.old) (O.faults out.new)
         → IsDoneUnlessMemory result.cause))) }
@@ -54,7 +54,7 @@ pub fn run<F: Files, L: Link, C: Clock, D: Dice, O: Sink, E: Sink>(
     ensures no_word { D.told _dice.new ≡ D.told _dice.old }
 
     // Whatever comes, the files hold what they held and no count of faults falls.
-    ensures kept { F.holds files.new ≡ F.holds files.old }
+    ensures kept { F.told files.new ≡ F.told files.old }
     ensures files_later { F.faults files.old ≤ F.faults files.new }
     ensures link_later { L.faults link.old ≤ L.faults link.new }
     ensures out_later { O.faults out.old ≤ O.faults out.new }
@@ -82,14 +82,14 @@ fn work<F: Files, L: Link, O: Sink>(
 ) -> Cause
     requires none_live { L.live link.old ≡ false }
     ensures none_live { L.live link.new ≡ false }
-    ensures course { (course : Course) × IsCourse words.now env.now.pairs (F.holds files.old) course
+    ensures course { (course : Course) × IsCourse words.now env.now.pairs (F.told files.old) course
         × EndsIn course result
         × Tells (L.told link.old) (L.told link.new) (Connects course)
-        × Tells (O.taken out.old) (O.taken out.new) (Prints course result) }
+        × Tells (O.told out.old) (O.told out.new) (Prints course result) }
     ensures file_fault { IsFileFault result → Rose (F.faults files.old) (F.faults files.new) }
     ensures lost { IsLost result → Rose (L.faults link.old) (L.faults link.new) }
     ensures out_fault { IsOutFault result → Rose (O.faults out.old) (O.faults out.new) }
-    ensures kept { F.holds files.new ≡ F.holds files.old }
+    ensures kept { F.told files.new ≡ F.told files.old }
     ensures files_later { F.faults files.old ≤ F.faults files.new }
     ensures link_later { L.faults link.old ≤ L.faults link.new }
     ensures out_later { O.faults out.old ≤ O.faults out.new }

@@ -37,10 +37,10 @@ pub fn newest_version<F: Files>(
     folders: &[Text],
     service: &Text,
 ) -> Result<Option<Version>, Unread>
-    ensures kept { F.holds files.new ≡ F.holds files.old }
-    ensures found { IfSome (F.holds files.old)
+    ensures kept { F.told files.new ≡ F.told files.old }
+    ensures found { IfSome (F.told files.old)
         (λ held. IfOk result (IsNewest held folders.now service.now)) }
-    ensures path { IfErr result (FaultsAt (IsLookedAt folders.now (F.holds files.old) service.now)) }
+    ensures path { IfErr result (FaultsAt (IsLookedAt folders.now (F.told files.old) service.now)) }
     ensures cause { HasFileCause (F.faults files.old) (F.faults files.new) result }
 {
     let mut newest = None;
@@ -62,10 +62,10 @@ fn newer_version<F: Files>(
     service: &Text,
     newest: &Option<Version>,
 ) -> Result<Option<Version>, Unread>
-    ensures kept { F.holds files.new ≡ F.holds files.old }
-    ensures found { IfSome (F.holds files.old)
+    ensures kept { F.told files.new ≡ F.told files.old }
+    ensures found { IfSome (F.told files.old)
         (λ held. IfOk result (IsNewer (IsVersion held folder.now service.now) newest.now)) }
-    ensures path { IfErr result (FaultsAt (IsLookedAtIn folder.now (F.holds files.old) service.now)) }
+    ensures path { IfErr result (FaultsAt (IsLookedAtIn folder.now (F.told files.old) service.now)) }
     ensures cause { HasFileCause (F.faults files.old) (F.faults files.new) result }
 {
     if !is_plain(service) {
@@ -106,8 +106,8 @@ fn newer_listed<F: Files>(
     versions: &[Text],
     newest: &Option<Version>,
 ) -> Result<Option<Version>, Unread>
-    ensures kept { F.holds files.new ≡ F.holds files.old }
-    ensures found { IfSome (F.holds files.old) (λ held. AllPairs IsBefore versions.now
+    ensures kept { F.told files.new ≡ F.told files.old }
+    ensures found { IfSome (F.told files.old) (λ held. AllPairs IsBefore versions.now
         → IfOk result (IsNewer (IsListed held folder.now versions.now) newest.now)) }
     ensures path { IfErr result (FaultsAt (IsPathAmong folder.now versions.now)) }
     ensures cause { HasFileCause (F.faults files.old) (F.faults files.new) result }
@@ -154,8 +154,8 @@ fn comes_after(name: &Text, newest: &Option<Version>) -> bool
 
 /// The names below a folder: none where it isn't there.
 fn list<F: Files>(alloc: Global, files: &mut F, folder: &Text) -> Result<List<Text>, Unread>
-    ensures kept { F.holds files.new ≡ F.holds files.old }
-    ensures names { IfSome (F.holds files.old) (λ held. IfOk result (IsListing folder.now held)) }
+    ensures kept { F.told files.new ≡ F.told files.old }
+    ensures names { IfSome (F.told files.old) (λ held. IfOk result (IsListing folder.now held)) }
     ensures fault { IfErr result (FaultsAt (λ path. path ≡ folder.now)) }
     ensures cause { HasFileCause (F.faults files.old) (F.faults files.new) result }
 {
@@ -170,8 +170,8 @@ fn list<F: Files>(alloc: Global, files: &mut F, folder: &Text) -> Result<List<Te
 
 /// A model file, where it is there.
 fn read<F: Files>(alloc: Global, files: &mut F, path: &Text) -> Result<Option<ModelFile>, Unread>
-    ensures kept { F.holds files.new ≡ F.holds files.old }
-    ensures found { IfSome (F.holds files.old) (λ held. IfOk result (IsFileAt (file_at path.now held))) }
+    ensures kept { F.told files.new ≡ F.told files.old }
+    ensures found { IfSome (F.told files.old) (λ held. IfOk result (IsFileAt (file_at path.now held))) }
     ensures fault { IfErr result (FaultsAt (λ read. read ≡ path.now)) }
     ensures cause { HasFileCause (F.faults files.old) (F.faults files.new) result }
 {

@@ -6,9 +6,9 @@ use aws_world::{Sink, SinkFault};
 
 /// Writes all bytes, in as many pieces as the sink takes. After a fault a front of them is written.
 pub fn write_all<S: Sink>(sink: &mut S, bytes: &[u8]) -> Result<(), SinkFault>
-    ensures ok { OnOk result (Tells (S.taken sink.old) (S.taken sink.new)
+    ensures ok { OnOk result (Tells (S.told sink.old) (S.told sink.new)
         (λ before after. after ≡ before ++ bytes.now)) }
-    ensures err { OnErr result (Tells (S.taken sink.old) (S.taken sink.new) (GainsFront bytes.now)) }
+    ensures err { OnErr result (Tells (S.told sink.old) (S.told sink.new) (GainsFront bytes.now)) }
     ensures cause { HasCause (S.faults sink.old) (S.faults sink.new) result }
 {
     let mut at = 0;

@@ -1,6 +1,5 @@
 -- Changes of a list's last item, one after another.
-use Rattle.std.proofs.Common.{◌≡◌, suc, List, [], ◌∷◌, ◌++◌, map, length, Option, refl, sym, ap, ◌∙◌}
-use Rattle.std.proofs.lemmas.List.{map-append}
+use Rattle.std.proofs.Common.{◌≡◌, suc, List, [], ◌∷◌, ◌++◌, length, Option, refl, sym, ap, ◌∙◌}
 use Rattle.aws_world.specs.Told.{Tells}
 use Rattle.aws_world.specs.Connection.{on_last}
 use Rattle.aws_world.proofs.Told.{tells_both}
@@ -48,10 +47,8 @@ pub tells_added_then : {A : Type 0} (c : A) (step : A → A) (first mid last : O
 tells_added_then c step first mid last p q =
     tells_both (λ x y. y ≡ x ++ c ∷ []) (λ y z. z ≡ on_last step y) (λ x z. z ≡ x ++ step c ∷ []) first mid last p q (λ x y z d e. e ∙ ap (on_last step) d ∙ on_last_at_end step x c)
 
--- the last item taken off, changed and put back, in a view of the list
-pub map-on_last : {A B : Type 0} (view : A → B) (step : B → B) (before rest after : List A) (x y : A) → before ≡ rest ++ x ∷ [] → after ≡ rest ++ y ∷ []
-    → view y ≡ step (view x) → map view after ≡ on_last step (map view before)
-map-on_last view step before rest after x y e f changed =
-    let old = ap (map view) e ∙ map-append view rest (x ∷ []) in
-    let new = ap (map view) f ∙ map-append view rest (y ∷ []) in
-    new ∙ ap (λ z. map view rest ++ z ∷ []) changed ∙ sym (ap (on_last step) old ∙ on_last_at_end step (map view rest) (view x))
+-- the last item taken off, changed and put back
+pub on_last_back : {A : Type 0} (step : A → A) (before rest after : List A) (x y : A) → before ≡ rest ++ x ∷ [] → after ≡ rest ++ y ∷ []
+    → y ≡ step x → after ≡ on_last step before
+on_last_back step before rest after x y e f changed =
+    f ∙ ap (λ z. rest ++ z ∷ []) changed ∙ sym (ap (on_last step) e ∙ on_last_at_end step rest x)

@@ -1,3 +1,4 @@
+pub mod Case
 pub mod Causes
 pub mod Folders
 pub mod Last

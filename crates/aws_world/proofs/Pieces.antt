@@ -2,7 +2,8 @@
 use Rattle.std.proofs.Common.{◌≡◌, ℕ, ◌+◌, List, [], ◌++◌, take, drop, Option, sym, ap, ◌∙◌, subst, append_assoc, append-nil}
 use Rattle.std.proofs.Math.Seq.{take-add}
 use Rattle.aws_world.specs.Told.{Tells}
-use Rattle.aws_world.specs.Connection.{Connection, on_last, more_sent, more_received}
+use Rattle.aws_world.specs.declared.connection.Connection.{Connection}
+use Rattle.aws_world.specs.Connection.{on_last, more_sent, more_received}
 use Rattle.aws_world.proofs.Told.{tells_none, tells_appended_both, tells_appended_none}
 use Rattle.aws_world.proofs.Last.{on_last_idle, tells_changed_both}
 

@@ -1,15 +1,7 @@
 -- The connections that a link has made, and how the last of them grows.
-use Rattle.std.specs.Prelude.{ℕ, Bool, true, false, Option, None, Some, List, [], ◌∷◌, ◌++◌}
+use Rattle.std.specs.Prelude.{ℕ, true, false, None, Some, List, [], ◌∷◌, ◌++◌}
 use Rattle.aws_world.specs.declared.link.LinkFault.{LinkFault}
-
--- one connection: its target, the bytes sent and received, whether the peer ended, and the fault
-pub record Connection : Type 0 where
-  pub host : List ℕ
-  pub port : ℕ
-  pub sent : List ℕ
-  pub received : List ℕ
-  pub ended : Bool
-  pub fault : Option LinkFault
+use Rattle.aws_world.specs.declared.connection.Connection.{Connection}
 
 -- a connection that was just made
 abbrev pub fresh : List ℕ → ℕ → Connection

@@ -1,4 +1,5 @@
--- Calls that are to fail, by their numbers.
+-- Calls that are to fail, by their numbers. The plan is a part of the objects in memory, whose own contracts
+-- alone cite it.
 use Rattle.std.specs.Prelude.{◌≡◌, ℕ, ◌+◌, ◌-◌, ◌^◌, List, min, Contains}
 use Rattle.aws_world.specs.declared.fault_plan.FaultPlan.{FaultPlan}
 

@@ -3,6 +3,7 @@ pub mod ConnectionLog
 pub mod Env
 pub mod FaultPlan
 pub mod FileTree
+pub mod Headers
 pub mod ListDice
 pub mod MemClock
 pub mod MemFiles

@@ -3,7 +3,7 @@ use Rattle.std.specs.Prelude.{ℕ, Bool, Option, List}
 use Rattle.aws_world.specs.declared.talk.Script.{Script}
 use Rattle.aws_world.specs.declared.talk.Talk.{Talk}
 use Rattle.aws_world.specs.declared.script_link.ScriptLink.{ScriptLink}
-use Rattle.aws_world.specs.Connection.{Connection}
+use Rattle.aws_world.specs.declared.connection.Connection.{Connection}
 use Rattle.aws_world.specs.ConnectionLog.{told_of}
 
 abbrev pub connections_told : ScriptLink → Option (List Connection)

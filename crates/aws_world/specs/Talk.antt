@@ -1,4 +1,5 @@
--- What a script makes of a connection.
+-- What a script makes of a connection. A connection in the making is a part of the link of scripts, whose own
+-- contracts alone cite it.
 use Rattle.std.specs.Prelude.{ℕ, ◌-◌, ◌==◌, if◌then◌else◌, Option, Some, None, Result, Ok, Err, List, [], ◌∷◌, length, drop, min}
 use Rattle.aws_world.specs.declared.link.LinkFault.{LinkFault}
 use Rattle.aws_world.specs.declared.link.LinkFault.TheVariants.{Connect}

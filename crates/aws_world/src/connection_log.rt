@@ -1,29 +1,17 @@
-ghost use Rattle.std.specs.Prelude.{◌≡◌, Some, [], ◌∷◌, ◌++◌, map, OnOk};
-ghost use Rattle.std.specs.Option.{option_map};
+ghost use Rattle.std.specs.Prelude.{◌≡◌, Some, [], ◌∷◌, ◌++◌, OnOk};
+ghost use Rattle.std.specs.Option.{option_copied};
 ghost use Rattle.aws_world.specs.Told.{Tells};
 ghost use Rattle.aws_world.specs.Connection.{fresh, on_last, more_sent, more_received, peer_ended, faulted};
-ghost use Rattle.aws_world.specs.ConnectionLog.{seen, with_fault, told_of};
+ghost use Rattle.aws_world.specs.ConnectionLog.{with_fault, told_of};
 
-use crate::LinkFault;
+use crate::{Connection, LinkFault};
 use std::alloc::Global;
 use texts::{Bytes, OutOfMemory, Text};
-
-/// A connection as it was kept.
-#[derive(Debug, Drop)]
-pub struct Kept {
-    pub host: Text,
-    pub port: u16,
-    pub sent: Bytes,
-    pub received: Bytes,
-    /// Whether the peer ended.
-    pub ended: bool,
-    pub fault: Option<LinkFault>,
-}
 
 /// The connections so far, oldest first. It tells nothing from then on where it can't grow.
 #[derive(Debug, Drop)]
 pub struct ConnectionLog {
-    kept: Vec<Kept>,
+    kept: Vec<Connection>,
     tells: bool,
 }
 
@@ -38,8 +26,8 @@ impl ConnectionLog {
     }
 
     /// The connections; None where it tells nothing.
-    pub fn kept(&self) -> Option<&[Kept]>
-        ensures { option_map (λ kept. map seen kept.now) result ≡ told_of self.now }
+    pub fn kept(&self) -> Option<&[Connection]>
+        ensures { option_copied result ≡ told_of self.now }
     {
         if self.tells {
             Some(self.kept.as_slice())
@@ -96,17 +84,17 @@ impl ConnectionLog {
 }
 
 fn push_new(
-    kept: &mut Vec<Kept>,
+    kept: &mut Vec<Connection>,
     host: &Text,
     port: u16,
     fault: Option<LinkFault>,
 ) -> Result<(), OutOfMemory>
-    ensures { OnOk result (map seen kept.new.items
-        ≡ map seen kept.old.items ++ with_fault fault (fresh host.now port) ∷ []) }
+    ensures { OnOk result (kept.new.items
+        ≡ kept.old.items ++ with_fault fault (fresh host.now port) ∷ []) }
 {
     let alloc = *kept.allocator();
     let host = host.copy(alloc)?;
-    kept.push(Kept {
+    kept.push(Connection {
         host,
         port,
         sent: Bytes::new(alloc),
@@ -117,8 +105,8 @@ fn push_new(
     Ok(())
 }
 
-fn put_sent(kept: &mut Vec<Kept>, bytes: &[u8]) -> Result<(), OutOfMemory>
-    ensures { OnOk result (map seen kept.new.items ≡ on_last (more_sent bytes.now) (map seen kept.old.items)) }
+fn put_sent(kept: &mut Vec<Connection>, bytes: &[u8]) -> Result<(), OutOfMemory>
+    ensures { OnOk result (kept.new.items ≡ on_last (more_sent bytes.now) kept.old.items) }
 {
     if let Some(mut last) = kept.pop() {
         last.sent.extend(bytes)?;
@@ -127,8 +115,8 @@ fn put_sent(kept: &mut Vec<Kept>, bytes: &[u8]) -> Result<(), OutOfMemory>
     Ok(())
 }
 
-fn put_received(kept: &mut Vec<Kept>, bytes: &[u8]) -> Result<(), OutOfMemory>
-    ensures { OnOk result (map seen kept.new.items ≡ on_last (more_received bytes.now) (map seen kept.old.items)) }
+fn put_received(kept: &mut Vec<Connection>, bytes: &[u8]) -> Result<(), OutOfMemory>
+    ensures { OnOk result (kept.new.items ≡ on_last (more_received bytes.now) kept.old.items) }
 {
     if let Some(mut last) = kept.pop() {
         last.received.extend(bytes)?;
@@ -137,8 +125,8 @@ fn put_received(kept: &mut Vec<Kept>, bytes: &[u8]) -> Result<(), OutOfMemory>
     Ok(())
 }
 
-fn put_end(kept: &mut Vec<Kept>) -> Result<(), OutOfMemory>
-    ensures { OnOk result (map seen kept.new.items ≡ on_last peer_ended (map seen kept.old.items)) }
+fn put_end(kept: &mut Vec<Connection>) -> Result<(), OutOfMemory>
+    ensures { OnOk result (kept.new.items ≡ on_last peer_ended kept.old.items) }
 {
     if let Some(mut last) = kept.pop() {
         last.ended = true;
@@ -147,8 +135,8 @@ fn put_end(kept: &mut Vec<Kept>) -> Result<(), OutOfMemory>
     Ok(())
 }
 
-fn put_fault(kept: &mut Vec<Kept>, fault: LinkFault) -> Result<(), OutOfMemory>
-    ensures { OnOk result (map seen kept.new.items ≡ on_last (faulted fault) (map seen kept.old.items)) }
+fn put_fault(kept: &mut Vec<Connection>, fault: LinkFault) -> Result<(), OutOfMemory>
+    ensures { OnOk result (kept.new.items ≡ on_last (faulted fault) kept.old.items) }
 {
     if let Some(mut last) = kept.pop() {
         last.fault = Some(fault);

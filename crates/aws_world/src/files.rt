@@ -31,17 +31,17 @@ impl From<OutOfMemory> for FileEnd {
 /// Files that can be read and don't change.
 pub trait Files {
     /// Each file's path and its bytes, where the object tells them.
-    ghost holds: { Self → Option (List (List ℕ × List ℕ)) };
+    ghost told: { Self → Option (List (List ℕ × List ℕ)) };
 
     /// How many calls have failed.
     ghost faults: { Self → ℕ };
 
     /// The names directly below a folder, each once, in the order of their bytes.
     fn list(&mut self, alloc: Global, folder: &Text) -> Result<List<Text>, FileEnd>
-        ensures kept { holds self.new ≡ holds self.old }
-        ensures names { IfSome (holds self.old) (λ files. IfOk result (IsListing folder.now files)) }
-        ensures found { IfSome (holds self.old) (λ files. OnOk result (HasBelow folder.now files)) }
-        ensures absent { IfSome (holds self.old)
+        ensures kept { told self.new ≡ told self.old }
+        ensures names { IfSome (told self.old) (λ files. IfOk result (IsListing folder.now files)) }
+        ensures found { IfSome (told self.old) (λ files. OnOk result (HasBelow folder.now files)) }
+        ensures absent { IfSome (told self.old)
             (λ files. IsErrOf result FileEnd.Absent → ¬ HasBelow folder.now files) }
         ensures never_long { ¬ IsErrOf result FileEnd.TooLong }
         ensures failed { IsErrOf result FileEnd.Failed → Rose (faults self.old) (faults self.new) }
@@ -49,13 +49,13 @@ pub trait Files {
 
     /// All bytes of a file, which has no more than the limit.
     fn read(&mut self, alloc: Global, path: &Text, limit: u64) -> Result<Bytes, FileEnd>
-        ensures kept { holds self.new ≡ holds self.old }
-        ensures whole { IfSome (holds self.old)
+        ensures kept { told self.new ≡ told self.old }
+        ensures whole { IfSome (told self.old)
             (λ files. IfOk result (λ bytes. file_at path.now files ≡ Some bytes)) }
         ensures within { IfOk result (λ bytes. length bytes ≤ limit) }
-        ensures absent { IfSome (holds self.old)
+        ensures absent { IfSome (told self.old)
             (λ files. IsErrOf result FileEnd.Absent → file_at path.now files ≡ None) }
-        ensures too_long { IfSome (holds self.old)
+        ensures too_long { IfSome (told self.old)
             (λ files. IsErrOf result FileEnd.TooLong → IsLonger limit (file_at path.now files)) }
         ensures failed { IsErrOf result FileEnd.Failed → Rose (faults self.old) (faults self.new) }
         ensures later { faults self.old ≤ faults self.new };

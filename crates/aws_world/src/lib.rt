@@ -4,12 +4,14 @@
 #![tactic(auto)]
 
 mod clock;
+mod connection;
 mod connection_log;
 mod dice;
 mod env;
 mod fault_plan;
 mod files;
 mod folder;
+mod headers;
 mod link;
 mod list_dice;
 mod mem_clock;
@@ -23,10 +25,11 @@ mod talk;
 mod tests;
 
 pub use clock::Clock;
-pub use connection_log::Kept;
+pub use connection::Connection;
 pub use dice::{Dice, DiceFault};
 pub use env::Env;
 pub use files::{FileEnd, Files};
+pub use headers::header;
 pub use link::{Link, LinkFault};
 pub use list_dice::ListDice;
 pub use mem_clock::MemClock;

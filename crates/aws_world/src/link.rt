@@ -1,6 +1,7 @@
 ghost use Rattle.std.specs.Prelude.{◌≡◌, ℕ, ◌<◌, ◌≤◌, Bool, true, false, Option, List, [], ◌∷◌, ◌++◌, length, take, is_ok, IfOk, IfErr, OnOk};
 ghost use Rattle.aws_world.specs.Told.{Tells, HasCause};
-ghost use Rattle.aws_world.specs.Connection.{Connection, fresh, refused, on_last, more_sent, more_received, peer_ended, faulted};
+ghost use Rattle.aws_world.specs.declared.connection.Connection.{Connection};
+ghost use Rattle.aws_world.specs.Connection.{fresh, refused, on_last, more_sent, more_received, peer_ended, faulted};
 
 use texts::Text;
 

@@ -22,7 +22,7 @@ impl MemFiles {
     /// These files; calls of these numbers fail, where calls of `list` and `read` are counted
     /// together. It takes no memory.
     pub fn new(_alloc: Global, files: List<(Text, Bytes)>, fails: List<u64>) -> MemFiles
-        ensures holds { ⟦<MemFiles as Files>⟧.holds result ≡ Some files }
+        ensures told { ⟦<MemFiles as Files>⟧.told result ≡ Some files }
         ensures faults { ⟦<MemFiles as Files>⟧.faults result ≡ 0 }
         ensures plan { plan_of result ≡ begin fails }
     {
@@ -40,7 +40,7 @@ impl MemFiles {
 }
 
 impl Files for MemFiles {
-    ghost holds = { λ files. Some (files_held files) };
+    ghost told = { λ files. Some (files_held files) };
 
     ghost faults = { λ files. (plan_of files).faults };
 

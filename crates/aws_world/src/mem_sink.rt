@@ -20,7 +20,7 @@ pub struct MemSink {
 impl MemSink {
     /// An empty sink, whose calls of these numbers fail. It takes no memory.
     pub fn new(alloc: Global, fails: List<u64>) -> MemSink
-        ensures taken { ⟦<MemSink as Sink>⟧.taken result ≡ Some [] }
+        ensures told { ⟦<MemSink as Sink>⟧.told result ≡ Some [] }
         ensures faults { ⟦<MemSink as Sink>⟧.faults result ≡ 0 }
         ensures plan { plan_of result ≡ begin fails }
     {
@@ -33,7 +33,7 @@ impl MemSink {
 
     /// The bytes taken so far; None where the sink tells nothing for want of memory.
     pub fn bytes(&self) -> Option<&[u8]>
-        ensures { option_copied result ≡ ⟦<MemSink as Sink>⟧.taken self.now }
+        ensures { option_copied result ≡ ⟦<MemSink as Sink>⟧.told self.now }
     {
         if self.tells {
             Some(self.bytes.as_slice())
@@ -50,7 +50,7 @@ impl MemSink {
 }
 
 impl Sink for MemSink {
-    ghost taken = { bytes_taken };
+    ghost told = { bytes_taken };
 
     ghost faults = { λ sink. (plan_of sink).faults };
 

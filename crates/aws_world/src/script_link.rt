@@ -3,9 +3,9 @@ ghost use Rattle.aws_world.specs.Told.{Tells, Rose, one_more};
 ghost use Rattle.aws_world.specs.Connection.{on_last, faulted};
 ghost use Rattle.aws_world.specs.ConnectionLog.{told_of};
 
-use crate::connection_log::{ConnectionLog, Kept};
+use crate::connection_log::ConnectionLog;
 use crate::talk::{Script, Talk};
-use crate::{Link, LinkFault};
+use crate::{Connection, Link, LinkFault};
 use std::alloc::Global;
 use std::collections::VecDeque;
 use texts::{List, Text};
@@ -23,9 +23,8 @@ pub struct ScriptLink {
 }
 
 impl ScriptLink {
-    ghost use Rattle.std.specs.Prelude.{Some, false, [], map};
-    ghost use Rattle.std.specs.Option.{option_map};
-    ghost use Rattle.aws_world.specs.ConnectionLog.{seen};
+    ghost use Rattle.std.specs.Prelude.{Some, false, []};
+    ghost use Rattle.std.specs.Option.{option_copied};
     ghost use Rattle.aws_world.specs.ScriptLink.{scripts_left, piece_of};
 
     /// A link whose connections go by these scripts, one after another, and give at most `piece`
@@ -49,8 +48,8 @@ impl ScriptLink {
     }
 
     /// The connections so far, oldest first; None where the link tells nothing for want of memory.
-    pub fn connections(&self) -> Option<&[Kept]>
-        ensures { option_map (λ kept. map seen kept.now) result ≡ ⟦<ScriptLink as Link>⟧.told self.now }
+    pub fn connections(&self) -> Option<&[Connection]>
+        ensures { option_copied result ≡ ⟦<ScriptLink as Link>⟧.told self.now }
     {
         self.log.kept()
     }

@@ -8,7 +8,7 @@ pub struct SinkFault;
 /// A place that bytes are written to, such as standard output.
 pub trait Sink {
     /// The bytes taken so far, where the object tells them.
-    ghost taken: { Self → Option (List ℕ) };
+    ghost told: { Self → Option (List ℕ) };
 
     /// How many calls have failed.
     ghost faults: { Self → ℕ };
@@ -18,9 +18,9 @@ pub trait Sink {
         requires { 0 < length piece.now }
         ensures some { IfOk result (λ count. 0 < count) }
         ensures within { IfOk result (λ count. count ≤ length piece.now) }
-        ensures taken { IfOk result (λ count. Tells (taken self.old) (taken self.new)
+        ensures taken { IfOk result (λ count. Tells (told self.old) (told self.new)
             (λ before after. after ≡ before ++ take count piece.now)) }
-        ensures failed { OnErr result (Tells (taken self.old) (taken self.new)
+        ensures failed { OnErr result (Tells (told self.old) (told self.new)
             (λ before after. after ≡ before)) }
         ensures cause { HasCause (faults self.old) (faults self.new) result };
 }

@@ -4,7 +4,8 @@ use Rattle.std.proofs.Math.Seq.{take-length}
 use Rattle.aws_world.specs.declared.message.Target.{Target}
 use Rattle.aws_world.specs.declared.link.LinkFault.{LinkFault}
 use Rattle.aws_world.specs.Told.{Tells}
-use Rattle.aws_world.specs.Connection.{Connection, fresh, refused, on_last, more_sent, more_received, peer_ended, faulted}
+use Rattle.aws_world.specs.declared.connection.Connection.{Connection}
+use Rattle.aws_world.specs.Connection.{fresh, refused, on_last, more_sent, more_received, peer_ended, faulted}
 use Rattle.aws_world.proofs.Told.{tells_both, tells_weaker}
 use Rattle.aws_world.proofs.Last.{on_last_at_end, tells_added_then}
 use Rattle.http_reply.specs.declared.outcome.Outcome.{Outcome}

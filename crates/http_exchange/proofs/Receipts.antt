@@ -3,7 +3,8 @@ use Rattle.std.proofs.Common.{◌≡◌, ℕ, ◌+◌, ◌-◌, ◌<◌, ◌≤�
 use Rattle.std.proofs.Math.Seq.{take-append_seam}
 use Rattle.aws_world.specs.declared.link.LinkFault.{LinkFault}
 use Rattle.aws_world.specs.Told.{Tells}
-use Rattle.aws_world.specs.Connection.{Connection, on_last, more_received, peer_ended, faulted}
+use Rattle.aws_world.specs.declared.connection.Connection.{Connection}
+use Rattle.aws_world.specs.Connection.{on_last, more_received, peer_ended, faulted}
 use Rattle.aws_world.proofs.Told.{tells_both, tells_weaker}
 use Rattle.aws_world.proofs.Pieces.{tells_received_more}
 use Rattle.http_reply.specs.declared.outcome.Outcome.{Outcome}

@@ -2,7 +2,8 @@
 use Rattle.std.specs.Prelude.{◌≡◌, ℕ, ◌+◌, ◌<◌, ◌≤◌, Bool, true, false, List, [], ◌∷◌, ◌++◌, length, take, Option, None, Some, ◌⊎◌}
 use Rattle.aws_world.specs.declared.message.Target.{Target}
 use Rattle.aws_world.specs.declared.link.LinkFault.{LinkFault}
-use Rattle.aws_world.specs.Connection.{Connection, on_last, more_sent, more_received, peer_ended, faulted}
+use Rattle.aws_world.specs.declared.connection.Connection.{Connection}
+use Rattle.aws_world.specs.Connection.{on_last, more_sent, more_received, peer_ended, faulted}
 use Rattle.http_reply.specs.declared.outcome.Outcome.{Outcome}
 use Rattle.http_reply.specs.declared.outcome.Outcome.TheVariants.{Whole, Lost, Cut, Malformed, TooLarge, OutOfMemory}
 use Rattle.http_reply.specs.Outcome.{IsOutcome, Waits}

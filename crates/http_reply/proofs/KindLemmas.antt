@@ -10,7 +10,7 @@ use Rattle.std.proofs.lemmas.List.Folds.{list_all_more}
 use Rattle.std.proofs.lemmas.Slice.Eq.{bytes_eq-Decides}
 use Rattle.httparse.proofs.ChunkLemmas.{digits_value_after_push}
 use Rattle.http_reply.specs.declared.kinds.Kind.TheVariants.{Malformed}
-use Rattle.http_reply.specs.Fields.{first_of}
+use Rattle.aws_world.specs.Headers.{first_of}
 use Rattle.http_reply.specs.Kinds.{kind_by_length, kind_by_number}
 
 pub kind_by_length-some : (values : List (List ℕ)) (v : List ℕ) → first_of values ≡ Some v

@@ -1,5 +1,4 @@
 pub mod AdvanceLemmas
-pub mod CaseLemmas
 pub mod ComputedLemmas
 pub mod CutLemmas
 pub mod PrintedLines

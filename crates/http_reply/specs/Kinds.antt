@@ -6,7 +6,7 @@ use Rattle.std.specs.Str.{str_eq_ignore_ascii_case}
 use Rattle.std.specs.Str.Parse.{digits_value}
 use Rattle.http_reply.specs.declared.kinds.Kind.{Kind}
 use Rattle.http_reply.specs.declared.kinds.Kind.TheVariants.{Interim, NoBody, Chunked, Fixed, ToEnd, Malformed, TooLarge}
-use Rattle.http_reply.specs.Fields.{named}
+use Rattle.aws_world.specs.Headers.{named}
 use Rattle.http_reply.specs.declared.limits.TheConstants.{BODY_LIMIT}
 
 -- the value is a number below 2^63, in digits alone

@@ -17,6 +17,6 @@ abbrev pub IsReading : ReplyReader → Type 0
 IsReading reader = (head_only : Bool) × (received : List ℕ) × WaitsAfter head_only received reader
 
 -- after these bytes the reader waits, or answers what they decide
-abbrev pub Gives : Bool → List ℕ → ReplyReader → Option Outcome → Type 0
-Gives head_only received reader None = WaitsAfter head_only received reader
-Gives head_only received reader (Some outcome) = IsOutcome head_only received false None outcome
+abbrev pub WaitsOrAnswers : Bool → List ℕ → ReplyReader → Option Outcome → Type 0
+WaitsOrAnswers head_only received reader None = WaitsAfter head_only received reader
+WaitsOrAnswers head_only received reader (Some outcome) = IsOutcome head_only received false None outcome

@@ -3,7 +3,8 @@ ghost use Rattle.std.specs.Prelude.{◌≡◌, length, All, codes, bytes_eq, opt
 ghost use Rattle.std.specs.List.{list_all};
 ghost use Rattle.std.specs.Str.{str_eq_ignore_ascii_case};
 ghost use Rattle.httparse.specs.Spans.{IsHeaderWithin, span_bytes};
-ghost use Rattle.http_reply.specs.Fields.{named, first_of, fields_in};
+ghost use Rattle.aws_world.specs.Headers.{named, first_of};
+ghost use Rattle.http_reply.specs.Fields.{fields_in};
 
 use httparse::spans::HeaderSpan;
 

@@ -4,7 +4,8 @@ ghost use Rattle.std.specs.List.{list_all};
 ghost use Rattle.std.specs.Char.{is_ascii_digit};
 ghost use Rattle.std.specs.Str.Parse.{digits_value};
 ghost use Rattle.httparse.specs.Spans.{IsHeaderWithin};
-ghost use Rattle.http_reply.specs.Fields.{named, fields_in};
+ghost use Rattle.aws_world.specs.Headers.{named};
+ghost use Rattle.http_reply.specs.Fields.{fields_in};
 ghost use Rattle.http_reply.specs.Kinds.{kind_of, kind_by_length, kind_by_number, is_length, IsWithinLimit};
 
 use crate::fields::{are_chunked, are_copies, first_named};

@@ -3,7 +3,6 @@
 
 mod cuts;
 mod fields;
-mod headers;
 mod heads;
 mod kinds;
 mod laws;
@@ -12,7 +11,6 @@ mod outcome;
 mod reader;
 mod steps;
 
-pub use headers::header;
 pub use kinds::Kind;
 pub use laws::{
     ended_is_whole, front_decides, has_one_outcome, outcome_is_computed, outcome_is_there,

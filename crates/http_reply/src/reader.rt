@@ -4,7 +4,7 @@ ghost use Rattle.aws_world.specs.declared.message.Reply.{Reply};
 ghost use Rattle.http_reply.specs.Machine.{wait, Does};
 ghost use Rattle.http_reply.specs.Outcome.{IsOutcome, IsSmall};
 ghost use Rattle.http_reply.specs.Reading.{phase_of, Fits, IsScanned, Reaches};
-ghost use Rattle.http_reply.specs.Waiting.{WaitsAfter, IsReading, Gives};
+ghost use Rattle.http_reply.specs.Waiting.{WaitsAfter, IsReading, WaitsOrAnswers};
 
 use crate::limits::TOTAL_LIMIT;
 use crate::outcome::Outcome;
@@ -148,7 +148,7 @@ impl ReplyReader {
         requires reads { IsReading self.old }
         requires few { self.old.count + length piece.now ≤ TOTAL_LIMIT }
         ensures gives { (head_only : Bool) (received : List ℕ) → WaitsAfter head_only received self.old
-            → IfOk result (Gives head_only (received ++ piece.now) self.new) }
+            → IfOk result (WaitsOrAnswers head_only (received ++ piece.now) self.new) }
         ensures small { IfOk result (λ outcome. IfSome outcome IsSmall) }
     {
         let from = scanned(self.due, self.rest.len());
@@ -181,7 +181,7 @@ impl ReplyReader {
     pub fn read(&mut self, alloc: Global, piece: &[u8]) -> Option<Outcome>
         requires { IsReading self.old }
         ensures gives { (head_only : Bool) (received : List ℕ) → WaitsAfter head_only received self.old
-            → Gives head_only (received ++ piece.now) self.new result }
+            → WaitsOrAnswers head_only (received ++ piece.now) self.new result }
         ensures reads { IfNone result (IsReading self.new) }
         ensures small { IfSome result IsSmall }
     {

@@ -13,11 +13,11 @@ returns-in_err-write_all-2-clause-err g c =
     always_on_err _ c.from_residual-in_err-write_all-2.result
     (front_of_rest c.args.before.now (c.args.text.now ++ c.args.after.now) _ _ _ c.in_ok-write_all.ensures.ok
     (front_of_first c.args.text.now c.args.after.now _ _
-    (subst (λ bytes. Tells (g.E.Sink.taken c.write_all.new.sink) (g.E.Sink.taken c.write_all-2.new.sink) (GainsFront bytes)) c.as_bytes.ensures.value c.in_err-write_all-2.ensures.err)))
+    (subst (λ bytes. Tells (g.E.Sink.told c.write_all.new.sink) (g.E.Sink.told c.write_all-2.new.sink) (GainsFront bytes)) c.as_bytes.ensures.value c.in_err-write_all-2.ensures.err)))
 
 pub returns-clause-err : goal.returns-clause-err
 returns-clause-err g c =
     on_err _ _ c.write_all-3.result c.write_all-3.ensures.err
     (λ front. front_of_rest c.args.before.now (c.args.text.now ++ c.args.after.now) _ _ _ c.in_ok-write_all.ensures.ok
     (front_of_rest c.args.text.now c.args.after.now _ _ _
-    (subst (λ bytes. Tells (g.E.Sink.taken c.write_all.new.sink) (g.E.Sink.taken c.write_all-2.new.sink) (λ x z. z ≡ x ++ bytes)) c.as_bytes.ensures.value c.in_ok-write_all-2.ensures.ok) front))
+    (subst (λ bytes. Tells (g.E.Sink.told c.write_all.new.sink) (g.E.Sink.told c.write_all-2.new.sink) (λ x z. z ≡ x ++ bytes)) c.as_bytes.ensures.value c.in_ok-write_all-2.ensures.ok) front))

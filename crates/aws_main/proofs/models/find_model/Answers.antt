@@ -8,7 +8,7 @@ use Rattle.aws_main.proofs.models.find_model.Goals as goal
 pub returns-in-Ok-clause-found : goal.returns-in-Ok-clause-found
 returns-in-Ok-clause-found g c =
     sought_by c.args.env.now.pairs _ c.args.service.now c.in-Ok.newest c.model_in.result
-    (subst (λ folders. IfSome (g.F.Files.holds c.args.files.now) (λ files. IsNewest files folders c.args.service.now c.in-Ok.newest)) (c.as_slice.ensures ∙ c.in_ok-folders.ensures) c.in-Ok.ensures.found)
+    (subst (λ folders. IfSome (g.F.Files.told c.args.files.now) (λ files. IsNewest files folders c.args.service.now c.in-Ok.newest)) (c.as_slice.ensures ∙ c.in_ok-folders.ensures) c.in-Ok.ensures.found)
     c.model_in.ensures
 
 pub returns-in-Ok-clause-cause : goal.returns-in-Ok-clause-cause
@@ -17,4 +17,4 @@ returns-in-Ok-clause-cause g c = no_file_in c.args.service.now c.in-Ok.newest c.
 pub returns-clause-found : goal.returns-clause-found
 returns-clause-found g c =
     failed_search c.args.env.now.pairs _ c.args.service.now c.in-Err.refusal
-    (subst (λ folders. FaultsAt (IsLookedAt folders (g.F.Files.holds c.args.files.now) c.args.service.now) c.in-Err.refusal) (c.as_slice.ensures ∙ c.in_ok-folders.ensures) c.in-Err.ensures.path)
+    (subst (λ folders. FaultsAt (IsLookedAt folders (g.F.Files.told c.args.files.now) c.args.service.now) c.in-Err.refusal) (c.as_slice.ensures ∙ c.in_ok-folders.ensures) c.in-Err.ensures.path)

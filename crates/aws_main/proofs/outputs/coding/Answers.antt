@@ -1,5 +1,5 @@
 use Rattle.std.proofs.Common.{codes, refl, ap, ◌∙◌}
-use Rattle.http_reply.specs.Fields.{header_of}
+use Rattle.aws_world.specs.Headers.{header_of}
 use Rattle.texts.proofs.Texts.{chars_ascii}
 use Rattle.aws_main.proofs.outputs.coding.Goals as goal
 

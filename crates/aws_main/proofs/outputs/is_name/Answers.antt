@@ -1,7 +1,7 @@
 use Rattle.std.proofs.Common.{ap, ◌∙◌}
 use Rattle.std.specs.Str.{str_eq_ignore_ascii_case}
 use Rattle.texts.proofs.Texts.{chars_ascii}
-use Rattle.http_reply.proofs.CaseLemmas.{same_but_case}
+use Rattle.aws_world.proofs.Case.{same_but_case}
 use Rattle.aws_main.proofs.outputs.is_name.Goals as goal
 
 pub returns : goal.returns

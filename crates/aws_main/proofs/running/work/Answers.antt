@@ -31,7 +31,7 @@ returns-in-Ok-write_all-clause-course g c =
       (c.in-Ok.ensures.planned, made.1),
       inl refl,
       made.2,
-      subst (λ bytes. Tells (g.O.Sink.taken c.args.out.now) (g.O.Sink.taken c.write_all.new.sink) (λ x z. z ≡ x ++ bytes)) (c.as_bytes.ensures.value ∙ c.as_str.ensures.bytes)
+      subst (λ bytes. Tells (g.O.Sink.told c.args.out.now) (g.O.Sink.told c.write_all.new.sink) (λ x z. z ≡ x ++ bytes)) (c.as_bytes.ensures.value ∙ c.as_str.ensures.bytes)
           c.in-Ok-write_all.ensures.ok,
     )
 
@@ -42,6 +42,6 @@ returns-clause-course g c =
       (c.in-Ok.ensures.planned, made.1),
       inr refl,
       made.2,
-      subst (λ bytes. Tells (g.O.Sink.taken c.args.out.now) (g.O.Sink.taken c.write_all.new.sink) (GainsFront bytes)) (c.as_bytes.ensures.value ∙ c.as_str.ensures.bytes)
+      subst (λ bytes. Tells (g.O.Sink.told c.args.out.now) (g.O.Sink.told c.write_all.new.sink) (GainsFront bytes)) (c.as_bytes.ensures.value ∙ c.as_str.ensures.bytes)
           c.in-Err-write_all.ensures.err,
     )

@@ -6,8 +6,8 @@ use Rattle.aws_main.proofs.searching.newer_listed.Given as goal
 -- those that are left are a front of the versions, and the others have no model file
 abbrev pub invariant-loop-name : goal.invariant-loop-name
 invariant-loop-name g l = record {
-  kept : g.F.Files.holds l.files ≡ g.F.Files.holds l.fn.files;
-  passed : ((back : List (List ℕ)) × (l.versions ≡ l.left ++ back) × IfSome (g.F.Files.holds l.fn.files) (λ held. HasNone held l.folder back));
+  kept : g.F.Files.told l.files ≡ g.F.Files.told l.fn.files;
+  passed : ((back : List (List ℕ)) × (l.versions ≡ l.left ++ back) × IfSome (g.F.Files.told l.fn.files) (λ held. HasNone held l.folder back));
   later : g.F.Files.faults l.fn.files ≤ g.F.Files.faults l.files;
 }
 

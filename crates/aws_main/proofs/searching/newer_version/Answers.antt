@@ -1,5 +1,5 @@
 use Rattle.std.proofs.Common.{◌≡◌, sym, ap, ◌∙◌, subst}
-use Rattle.std.specs.Prelude.{AllPairs, Contains, IfOk, IfSome}
+use Rattle.std.specs.Prelude.{AllPairs, Contains, IfOk}
 use Rattle.aws_world.specs.FileTree.{IsChild, IsListing}
 use Rattle.texts.specs.Order.{IsBefore}
 use Rattle.aws_main.specs.Folder.{below, model_path, IsListed, IsNewer, IsPathAmong}
@@ -10,7 +10,7 @@ use Rattle.aws_main.proofs.searching.newer_version.Goals as goal
 
 pub returns-then-not-is_plain-clause-found : goal.returns-then-not-is_plain-clause-found
 returns-then-not-is_plain-clause-found g c =
-    always_told _ (g.F.Files.holds c.args.files.now)
+    always_told _ (g.F.Files.told c.args.files.now)
     (λ held. no_service held c.args.folder.now c.args.service.now c.args.newest.now (sym c.is_plain.ensures ∙ c.if-not-is_plain.true))
 
 pub returns-clause-found : goal.returns-clause-found
@@ -30,7 +30,7 @@ returns-clause-path g c =
     (λ at among.
     at_version (
       among.0,
-      told _ _ (g.F.Files.holds c.args.files.now) c.in-Ok.ensures.names
+      told _ _ (g.F.Files.told c.args.files.now) c.in-Ok.ensures.names
           (λ held listing. subst (λ p. IsChild p held among.0) path ((listing.exact among.0).0 (subst (λ all. Contains all among.0) c.as_slice.ensures among.1))),
       among.2 ∙ ap (λ p. model_path p among.0) path,
     ))

@@ -29,5 +29,5 @@ loop-folder-preserved g c =
 
 pub returns-clause-found : goal.returns-clause-found
 returns-clause-found g c =
-    told _ _ (g.F.Files.holds c.args.files.now) c.loop-folder.invariant.found
+    told _ _ (g.F.Files.told c.args.files.now) c.loop-folder.invariant.found
     (λ held newest. looked_at_all held c.args.folders.now c.args.service.now c.loop-folder.folder-index c.loop-folder.newest c.loop-folder-test.false newest)

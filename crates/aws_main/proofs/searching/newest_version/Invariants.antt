@@ -7,7 +7,7 @@ use Rattle.aws_main.proofs.searching.newest_version.Given as goal
 -- the newest version in the folders so far
 abbrev pub invariant-loop-folder : goal.invariant-loop-folder
 invariant-loop-folder g l = record {
-  kept : g.F.Files.holds l.files ≡ g.F.Files.holds l.fn.files;
-  found : IfSome (g.F.Files.holds l.fn.files) (λ held. IsNewestOf (Before l.folder-index (IsVersionAt held l.folders l.service)) l.newest);
+  kept : g.F.Files.told l.files ≡ g.F.Files.told l.fn.files;
+  found : IfSome (g.F.Files.told l.fn.files) (λ held. IsNewestOf (Before l.folder-index (IsVersionAt held l.folders l.service)) l.newest);
   later : g.F.Files.faults l.fn.files ≤ g.F.Files.faults l.files;
 }

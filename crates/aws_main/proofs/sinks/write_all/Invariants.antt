@@ -6,7 +6,7 @@ use Rattle.aws_main.proofs.sinks.write_all.Given as goal
 abbrev pub invariant-loop-at : goal.invariant-loop-at
 invariant-loop-at g l = record {
   within : l.at ≤ length l.bytes;
-  written : Tells (g.S.Sink.taken l.fn.sink) (g.S.Sink.taken l.sink) (λ before after. after ≡ before ++ take l.at l.bytes);
+  written : Tells (g.S.Sink.told l.fn.sink) (g.S.Sink.told l.sink) (λ before after. after ≡ before ++ take l.at l.bytes);
   later : g.S.Sink.faults l.fn.sink ≤ g.S.Sink.faults l.sink;
 }
 

@@ -1,9 +1,8 @@
 use Rattle.std.proofs.Common.{ap}
 use Rattle.aws_world.specs.Connection.{more_sent}
-use Rattle.aws_world.specs.ConnectionLog.{seen}
-use Rattle.aws_world.proofs.Last.{map-on_last}
+use Rattle.aws_world.proofs.Last.{on_last_back}
 use Rattle.aws_world.proofs.connection_log.put_sent.Goals as goal
 
 pub returns-in_ok-push : goal.returns-in_ok-push
 returns-in_ok-push c =
-    map-on_last seen (more_sent c.args.bytes.now) _ _ _ c.in-Some.last _ c.in-Some.ensures.items c.in_ok-push.ensures.items (ap (λ bytes. record (seen c.in-Some.last) { sent = bytes }) c.in_ok-extend.ensures.ok)
+    on_last_back (more_sent c.args.bytes.now) _ _ _ c.in-Some.last _ c.in-Some.ensures.items c.in_ok-push.ensures.items (ap (λ bytes. record c.in-Some.last { sent = bytes }) c.in_ok-extend.ensures.ok)

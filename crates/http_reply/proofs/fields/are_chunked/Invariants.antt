@@ -2,7 +2,8 @@ use Rattle.std.proofs.Common.{◌≡◌, drop}
 use Rattle.std.specs.Prelude.{codes}
 use Rattle.std.specs.List.{list_all}
 use Rattle.std.specs.Str.{str_eq_ignore_ascii_case}
-use Rattle.http_reply.specs.Fields.{named, fields_in}
+use Rattle.aws_world.specs.Headers.{named}
+use Rattle.http_reply.specs.Fields.{fields_in}
 use Rattle.http_reply.proofs.fields.are_chunked.Given as goal
 
 -- what is left decides for all

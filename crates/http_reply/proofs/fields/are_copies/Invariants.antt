@@ -1,7 +1,8 @@
 use Rattle.std.proofs.Common.{◌≡◌, drop}
 use Rattle.std.specs.Prelude.{codes, bytes_eq}
 use Rattle.std.specs.List.{list_all}
-use Rattle.http_reply.specs.Fields.{named, fields_in}
+use Rattle.aws_world.specs.Headers.{named}
+use Rattle.http_reply.specs.Fields.{fields_in}
 use Rattle.http_reply.proofs.fields.are_copies.Given as goal
 
 -- what is left decides for all

@@ -1,5 +1,6 @@
 use Rattle.std.proofs.Common.{◌≡◌, drop}
-use Rattle.http_reply.specs.Fields.{named, first_of, fields_in}
+use Rattle.aws_world.specs.Headers.{named, first_of}
+use Rattle.http_reply.specs.Fields.{fields_in}
 use Rattle.http_reply.proofs.fields.first_named.Given as goal
 
 -- what is left has the first one

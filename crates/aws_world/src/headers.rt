@@ -1,9 +1,9 @@
 //! The headers of a whole reply.
 ghost use Rattle.std.specs.Prelude.{◌≡◌, option_copied};
 ghost use Rattle.std.specs.Str.{chars, str_eq_ignore_ascii_case};
-ghost use Rattle.http_reply.specs.Fields.{header_of};
+ghost use Rattle.aws_world.specs.Headers.{header_of};
 
-use aws_world::Reply;
+use crate::Reply;
 use texts::Text;
 
 /// Whether a text is a name, without regard to the case of ASCII letters.

@@ -1,7 +1,7 @@
 use Rattle.std.proofs.Common.{◌≡◌, drop}
 use Rattle.std.specs.Str.{chars}
-use Rattle.http_reply.specs.Fields.{header_of}
-use Rattle.http_reply.proofs.headers.header.Given as goal
+use Rattle.aws_world.specs.Headers.{header_of}
+use Rattle.aws_world.proofs.headers.header.Given as goal
 
 -- what is left has the first one
 abbrev pub invariant-loop-field : goal.invariant-loop-field

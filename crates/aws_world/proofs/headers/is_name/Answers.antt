@@ -1,5 +1,5 @@
-use Rattle.http_reply.proofs.CaseLemmas.{same_but_case}
-use Rattle.http_reply.proofs.headers.is_name.Goals as goal
+use Rattle.aws_world.proofs.Case.{same_but_case}
+use Rattle.aws_world.proofs.headers.is_name.Goals as goal
 
 pub returns : goal.returns
 returns c =
