@@ -1,7 +1,7 @@
 ghost use Rattle.std.specs.Prelude.{◌<◌};
 
-use crate::{Outcome, ReplyReader, header};
-use aws_world::LinkFault;
+use crate::{Outcome, ReplyReader};
+use aws_world::{LinkFault, header};
 use std::alloc::{AllocError, Global};
 use std::str;
 use std::test::Fail;
