@@ -10,7 +10,8 @@ use Rattle.std.proofs.lemmas.Slice.Eq.{bytes_eq-Decides}
 use Rattle.std.proofs.lemmas.List.Sums.{sum_by-cons, sum_by_more}
 use Rattle.service_model.specs.declared.arguments.Argument.{Argument}
 use Rattle.service_model.specs.declared.arguments.Usage.{Usage}
-use Rattle.service_model.specs.Arguments.{IsUsage, negation_of, negates, is_shared}
+use Rattle.service_model.specs.Arguments.{negation_of, negates, is_shared}
+use Rattle.service_model.specs.Inside.{IsUsage}
 
 one_of_two : (p q : Bool) → (p ≡ true → q ≡ false) → cond (p || q) 1 0 ≡ cond p 1 0 + cond q 1 0
 one_of_two true true apart = absurd (true≢false (apart refl))

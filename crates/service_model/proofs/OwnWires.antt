@@ -1,11 +1,7 @@
 -- Names under which members are sent, and whether one stands twice.
-use Rattle.std.proofs.Common.{◌≡◌, ℕ, ◌+◌, ◌<◌, ◌≤◌, Bool, true, false, not, ◌&&◌, ◌||◌, nat_eq, List, [], ◌∷◌, ◌++◌, map, length, get_or, drop, bytes_eq, Ok, refl, sym, ap, subst, ◌∙◌}
-use Rattle.std.specs.Cmp.Lexicographic.{pointwise}
+use Rattle.std.proofs.Common.{◌≡◌, ℕ, Bool, true, false, not, ◌&&◌, ◌||◌, List, [], ◌∷◌, ◌++◌, map, bytes_eq, Ok, refl, sym, ap, subst, ◌∙◌}
 use Rattle.std.specs.List.{AllByRecursion, list_any, list_all}
-use Rattle.std.proofs.lemmas.List.{at_drop_more, at_drop_all}
 use Rattle.std.proofs.lemmas.Slice.Eq.{bytes_eq-Decides}
-use Rattle.std.proofs.lemmas.Bool.{cond-false}
-use Rattle.indexmap.specs.IndexSet.{insert_key}
 use Rattle.json_doc.specs.declared.doc.Doc.{Doc}
 use Rattle.texts.specs.declared.pairs.Pair.{Pair}
 use Rattle.texts.specs.Keys.{IsNew, IsDistinct}
@@ -92,27 +88,3 @@ names_kept (m ∷ ms) e =
 pub own_where_kept : (members : List Member) → HasOwnNames members → list_all (λ m. bytes_eq m.wire m.name) members ≡ true → have_own_wires members ≡ true
 own_where_kept members distinct kept =
     ones_new [] (wires members) (none_of_none (wires members)) (subst IsDistinct (sym (names_kept members kept)) distinct)
-
--- one more member, whose name is none so far
-pub wires_go : (those after : List (List ℕ)) (members : List Member) (i : ℕ) (m : Member) (all : Bool) → i < length members → m ≡ get_or members i m
-    → list_any (bytes_eq m.wire) those ≡ false → after ≡ insert_key (pointwise nat_eq) those m.wire
-    → are_new those (wires (drop i members)) ≡ all → are_new after (wires (drop (i + 1) members)) ≡ all
-wires_go those after members i m all within is new put so_far =
-    ap (λ ks. are_new ks (wires (drop (i + 1) members))) (put ∙ cond-false (list_any (bytes_eq m.wire) those) those (those ++ m.wire ∷ []) new)
-    ∙ ap (λ b. not b && are_new (those ++ m.wire ∷ []) (wires (drop (i + 1) members))) (sym new)
-    ∙ ap (λ x. are_new those (x.wire ∷ wires (drop (i + 1) members))) is
-    ∙ sym (at_drop_more (λ ms. are_new those (wires ms)) members i m within)
-    ∙ so_far
-
--- a member whose name is one of those
-pub wires_end : (those : List (List ℕ)) (members : List Member) (i : ℕ) (m : Member) (all : Bool) → i < length members → m ≡ get_or members i m
-    → list_any (bytes_eq m.wire) those ≡ true → are_new those (wires (drop i members)) ≡ all → false ≡ all
-wires_end those members i m all within is there so_far =
-    ap (λ b. not b && are_new (those ++ m.wire ∷ []) (wires (drop (i + 1) members))) (sym there)
-    ∙ ap (λ x. are_new those (x.wire ∷ wires (drop (i + 1) members))) is
-    ∙ sym (at_drop_more (λ ms. are_new those (wires ms)) members i m within)
-    ∙ so_far
-
--- past the last member
-pub wires_done : (those : List (List ℕ)) (members : List Member) (i : ℕ) (all : Bool) → length members ≤ i → are_new those (wires (drop i members)) ≡ all → true ≡ all
-wires_done those members i all past so_far = sym (at_drop_all (λ ms. are_new those (wires ms)) members i past) ∙ so_far

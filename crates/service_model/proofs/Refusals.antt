@@ -11,7 +11,8 @@ use Rattle.service_model.specs.declared.shape.Kind.{Kind}
 use Rattle.service_model.specs.declared.shape.Kind.TheVariants.{Structure, Str}
 use Rattle.service_model.specs.declared.shape.Shape.{Shape}
 use Rattle.service_model.specs.declared.shape.ShapeId.{ShapeId}
-use Rattle.service_model.specs.Admission.{ReachesMaybe, HasPart, marked_at}
+use Rattle.service_model.specs.Admission.{ReachesMaybe, HasPart}
+use Rattle.service_model.specs.Inside.{marked_at}
 use Rattle.service_model.specs.Models.{IsOfKind, HasParts}
 use Rattle.service_model.specs.Reach.{Reaches, LeadsTo, HasPartsBelow}
 

@@ -1,7 +1,6 @@
 -- Why an operation can't be called: the first rule that holds.
-use Rattle.std.specs.Prelude.{◌≡◌, ℕ, Bool, true, false, not, ◌&&◌, ◌⊎◌, ◌↔◌, IsTrue, List, [], slice_get, slice_index_or, Option, None, Some, option_map, option_and_then, bytes_eq}
+use Rattle.std.specs.Prelude.{◌≡◌, ℕ, Bool, true, false, not, ◌&&◌, ◌⊎◌, IsTrue, List, [], slice_get, Option, None, Some, option_map, option_and_then, bytes_eq}
 use Rattle.std.specs.List.{list_any}
-use Rattle.service_model.specs.declared.admission.Findings.{Findings}
 use Rattle.service_model.specs.declared.metadata.Protocol.{Protocol}
 use Rattle.service_model.specs.declared.metadata.Protocol.TheVariants.{Other}
 use Rattle.service_model.specs.declared.operation.Operation.{Operation}
@@ -63,22 +62,6 @@ members_in_maybe (Some shape) = shape.members
 abbrev pub members_at : List Shape → Option ShapeId → List Member
 members_at shapes None = []
 members_at shapes (Some id) = members_in_maybe (slice_get shapes id.0)
-
--- the name that two members of the input share, by what is found of each shape
-abbrev pub shared_at : List (Option (List ℕ)) → Option ShapeId → Option (List ℕ)
-shared_at shared None = None
-shared_at shared (Some id) = slice_index_or shared id.0 None
-
--- there is a shape, and it is marked
-abbrev pub marked_at : List Bool → Option ShapeId → Bool
-marked_at marks None = false
-marked_at marks (Some id) = slice_index_or marks id.0 false
-
--- what is found of the shapes, as far as an operation needs it
-pub record IsFindings (shapes : List Shape) (row : Row) (findings : Findings) : Type 0 where
-  pub events : (from : ShapeId) → IsTrue (slice_index_or findings.events.items from.0 false) ↔ Reaches shapes (λ shape. IsTrue shape.events) from
-  pub json_values : (from : ShapeId) → IsTrue (slice_index_or findings.json_values.items from.0 false) ↔ Reaches shapes (λ shape. IsTrue (has_stray_json shapes shape)) from
-  pub shared : shared_at findings.shared.items row.input ≡ shared_argument shapes (members_at shapes row.input)
 
 abbrev pub IsOther : Protocol → Type 0
 IsOther Other = Unit {0}

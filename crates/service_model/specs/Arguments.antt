@@ -1,9 +1,8 @@
 -- The arguments that the members of an input have on the command line, and which of them clash.
-use Rattle.std.specs.Prelude.{◌≡◌, ℕ, Bool, true, false, ◌&&◌, ◌||◌, List, ◌++◌, map, slice_get, Option, Some, option_map, nat_lt, count_by, bytes_eq, codes}
-use Rattle.std.specs.List.{find, list_any}
+use Rattle.std.specs.Prelude.{ℕ, Bool, true, false, ◌&&◌, ◌||◌, List, ◌++◌, map, slice_get, Option, Some, option_map, nat_lt, count_by, bytes_eq, codes}
+use Rattle.std.specs.List.{find}
 use Rattle.model_files.specs.Names.{command_name}
 use Rattle.service_model.specs.declared.arguments.Argument.{Argument}
-use Rattle.service_model.specs.declared.arguments.Usage.{Usage}
 use Rattle.service_model.specs.declared.shape.Kind.{Kind}
 use Rattle.service_model.specs.declared.shape.Kind.TheVariants as kind
 use Rattle.service_model.specs.declared.shape.Member.{Member}
@@ -46,9 +45,3 @@ first_shared arguments = option_map (λ a. a.name) (find (is_shared arguments) a
 -- the name of the first member's argument that clashes with another's
 abbrev pub shared_argument : List Shape → List Member → Option (List ℕ)
 shared_argument shapes members = first_shared (arguments_of shapes members)
-
--- what is known of arguments: their names, the names of two or more, and the `no-` forms of flags
-pub record IsUsage (arguments : List Argument) (usage : Usage) : Type 0 where
-  pub named : (text : List ℕ) → list_any (bytes_eq text) usage.names.keys ≡ list_any (λ a. bytes_eq text a.name) arguments
-  pub repeated : (text : List ℕ) → list_any (bytes_eq text) usage.repeated.keys ≡ nat_lt 1 (count_by (λ a. bytes_eq text a.name) arguments)
-  pub negated : (text : List ℕ) → list_any (bytes_eq text) usage.negations.keys ≡ list_any (λ a. a.is_flag && bytes_eq text (negation_of a.name)) arguments

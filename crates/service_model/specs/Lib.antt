@@ -1,6 +1,7 @@
 pub mod Admission
 pub mod Arguments
 pub mod Choices
+pub mod Inside
 pub mod Kept
 pub mod Labels
 pub mod Locations

@@ -5,7 +5,8 @@ ghost use Rattle.std.specs.Option.{option_copied};
 ghost use Rattle.service_model.specs.declared.operation.Refusal.TheVariants as refusal;
 ghost use Rattle.service_model.specs.declared.shape.Kind.TheVariants.{Structure};
 ghost use Rattle.service_model.specs.declared.shape.ShapeId.{ShapeId as Id};
-ghost use Rattle.service_model.specs.Admission.{kind_of, is_stray_json, has_stray_json, is_blob, has_blob_body, is_payload_blob, members_at, shared_argument, shared_at, marked_at, IsOther, IsFindings, IsRefusal, IsAdmitted};
+ghost use Rattle.service_model.specs.Admission.{kind_of, is_stray_json, has_stray_json, is_blob, has_blob_body, is_payload_blob, members_at, shared_argument, IsOther, IsRefusal, IsAdmitted};
+ghost use Rattle.service_model.specs.Inside.{shared_at, marked_at, IsFindings};
 ghost use Rattle.service_model.specs.Models.{HasParts, IsOfKind};
 ghost use Rattle.service_model.specs.Reach.{Reaches, HasPartsBelow};
 

@@ -1,7 +1,8 @@
 //! The arguments that the members of an input have on the command line.
 ghost use Rattle.std.specs.Prelude.{◌≡◌, ℕ, ◌&&◌, ◌||◌, ◌++◌, List as Seq, IfOk, OnOk, codes, bytes_eq};
 ghost use Rattle.std.specs.List.{list_any};
-ghost use Rattle.service_model.specs.Arguments.{argument_of, arguments_of, is_boolean, kind_of, negation_of, first_shared, shared_argument, IsUsage};
+ghost use Rattle.service_model.specs.Arguments.{argument_of, arguments_of, is_boolean, kind_of, negation_of, first_shared, shared_argument};
+ghost use Rattle.service_model.specs.Inside.{IsUsage};
 
 use crate::{Kind, Member, Shape};
 use indexmap::IndexSet;

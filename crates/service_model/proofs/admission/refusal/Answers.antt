@@ -3,7 +3,8 @@ use Rattle.std.proofs.lemmas.Bool.{both_ways, iff_false}
 use Rattle.std.proofs.lemmas.Result.{IfOk-weaker}
 use Rattle.service_model.specs.declared.operation.Refusal.TheVariants as refusal
 use Rattle.std.specs.Option.{option_map}
-use Rattle.service_model.specs.Admission.{has_stray_json, has_blob_body, shared_at, IsRefusal}
+use Rattle.service_model.specs.Admission.{has_stray_json, has_blob_body, IsRefusal}
+use Rattle.service_model.specs.Inside.{shared_at}
 use Rattle.service_model.proofs.Refusals.{has_part, has_no_part}
 use Rattle.service_model.proofs.admission.refusal.Goals as goal
 

@@ -1,5 +1,5 @@
 use Rattle.std.proofs.Common.{take}
-use Rattle.service_model.specs.Arguments.{IsUsage}
+use Rattle.service_model.specs.Inside.{IsUsage}
 use Rattle.service_model.proofs.arguments.usage_of.Given as goal
 
 abbrev pub invariant-loop-argument : goal.invariant-loop-argument
