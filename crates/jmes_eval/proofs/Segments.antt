@@ -7,8 +7,8 @@ use Rattle.jmes_syntax.specs.declared.expr.Expr.{Expr}
 use Rattle.jmes_syntax.specs.declared.expr.Step.{Step}
 use Rattle.jmes_eval.specs.declared.query_fault.QueryFault.{QueryFault}
 use Rattle.jmes_eval.specs.declared.query_fault.QueryFault.TheVariants.{TypeFault, NumberTooWide, OutOfMemory}
-use Rattle.jmes_eval.specs.Answers.{Answer, GivesBy}
-use Rattle.texts.specs.Calls.{◌>>=◌}
+use Rattle.jmes_eval.specs.Answers.{Answer, is_memory}
+use Rattle.texts.specs.Calls.{◌>>=◌, Answers}
 use Rattle.jmes_eval.specs.Kinds.{items_of}
 use Rattle.jmes_eval.specs.Meaning.{meaning, behind, project, run, joined_lists}
 use Rattle.jmes_eval.specs.Parts.{steps_with}
@@ -43,7 +43,7 @@ came (Err e) fault is = ap Err is.1
 
 -- the fault of a part is that of the whole
 pub ends_so : {A B X Y : Type 0} (view : X → A) (part_view : Y → B) (part : Answer B) (whole : Answer A) (result : Answer X) (fault : QueryFault)
-    → result ≡ Err fault → GivesBy part_view part (Err fault) → (part ≡ Err fault → whole ≡ Err fault) → GivesBy view whole result
-ends_so view part_view part whole result TypeFault is gives goes = subst (GivesBy view whole) (sym is) (goes gives)
-ends_so view part_view part whole result NumberTooWide is gives goes = subst (GivesBy view whole) (sym is) (goes gives)
-ends_so view part_view part whole result OutOfMemory is gives goes = subst (GivesBy view whole) (sym is) tt
+    → result ≡ Err fault → Answers is_memory part_view (Err fault) part → (part ≡ Err fault → whole ≡ Err fault) → Answers is_memory view result whole
+ends_so view part_view part whole result TypeFault is gives goes = subst (λ r. Answers is_memory view r whole) (sym is) (goes gives)
+ends_so view part_view part whole result NumberTooWide is gives goes = subst (λ r. Answers is_memory view r whole) (sym is) (goes gives)
+ends_so view part_view part whole result OutOfMemory is gives goes = subst (λ r. Answers is_memory view r whole) (sym is) tt

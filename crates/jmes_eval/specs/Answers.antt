@@ -1,5 +1,5 @@
 -- What a query gives: a value, or the fault that is met first.
-use Rattle.std.specs.Prelude.{◌≡◌, List, [], ◌∷◌, Result, Ok, Err, Option, None, Some}
+use Rattle.std.specs.Prelude.{Bool, true, false, List, [], ◌∷◌, Result, Ok, Err, Option, None, Some}
 use Rattle.json_doc.specs.declared.decimal.Decimal.{Decimal}
 use Rattle.json_doc.specs.declared.doc.Doc as doc
 use Rattle.json_doc.specs.declared.doc.Doc.{Doc}
@@ -8,6 +8,12 @@ use Rattle.jmes_eval.specs.declared.query_fault.QueryFault.TheVariants.{TypeFaul
 
 abbrev pub Answer : Type 0 → Type 0
 Answer A = Result A QueryFault
+
+-- want of memory: it may come at any call
+abbrev pub is_memory : QueryFault → Bool
+is_memory OutOfMemory = true
+is_memory TypeFault = false
+is_memory NumberTooWide = false
 
 -- what a function takes, which a value of another kind doesn't have ("Functions Expressions": an
 -- invalid type is a fault)
@@ -29,17 +35,3 @@ in_front (Some x) (Some xs) = Some (x ∷ xs)
 abbrev pub all_of : {A B : Type 0} → (A → Option B) → List A → Option (List B)
 all_of view [] = Some []
 all_of view (x ∷ xs) = in_front (view x) (all_of view xs)
-
--- what a call answers is this; only want of memory is free
-abbrev pub Gives : {A : Type 0} → Answer A → Answer A → Type 0
-Gives wanted (Ok x) = wanted ≡ Ok x
-Gives wanted (Err TypeFault) = wanted ≡ Err TypeFault
-Gives wanted (Err NumberTooWide) = wanted ≡ Err NumberTooWide
-Gives wanted (Err OutOfMemory) = Unit {0}
-
--- the same of what it answers seen by a view
-abbrev pub GivesBy : {A X : Type 0} → (X → A) → Answer A → Answer X → Type 0
-GivesBy view wanted (Ok x) = wanted ≡ Ok (view x)
-GivesBy view wanted (Err TypeFault) = wanted ≡ Err TypeFault
-GivesBy view wanted (Err NumberTooWide) = wanted ≡ Err NumberTooWide
-GivesBy view wanted (Err OutOfMemory) = Unit {0}

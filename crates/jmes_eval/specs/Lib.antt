@@ -1,9 +1,9 @@
 pub mod Answers
-pub mod Entries
 pub mod Equality
 pub mod FaultText
 pub mod Forms
 pub mod Fractions
+pub mod Inside
 pub mod Kinds
 pub mod Lists
 pub mod Many
@@ -11,7 +11,6 @@ pub mod Meaning
 pub mod Numbers
 pub mod Orders
 pub mod Parts
-pub mod Seen
 pub mod Setting
 pub mod Slices
 pub mod Texts

@@ -1,10 +1,11 @@
 //! The values of a function's arguments.
 ghost use Rattle.std.specs.Prelude.{◌≡◌, ◌≢◌, is_some};
-ghost use Rattle.jmes_eval.specs.Answers.{Gives, GivesBy, all_of};
+ghost use Rattle.texts.specs.Calls.{Answers};
+ghost use Rattle.jmes_eval.specs.Answers.{is_memory, all_of};
 ghost use Rattle.jmes_syntax.specs.declared.function.Function.TheVariants.{ToArray};
 ghost use Rattle.jmes_eval.specs.Many.{first_value};
 ghost use Rattle.jmes_eval.specs.Meaning.{many_of, of_one, of_two, value_in};
-ghost use Rattle.jmes_eval.specs.Seen.{seen_doc, seen_values};
+ghost use Rattle.jmes_eval.specs.Inside.{seen_doc, seen_values};
 
 use crate::kinds::{is_null, type_name};
 use crate::seen::{Seen, made};
@@ -18,7 +19,7 @@ pub(crate) fn value<'a, 'b>(
     values: &'b [Option<Seen<'a>>],
     at: usize,
 ) -> Result<&'b Doc, QueryFault>
-    ensures { GivesBy (λ doc. doc.now) (value_in at (seen_values values.now)) result }
+    ensures { Answers is_memory (λ doc. doc.now) result (value_in at (seen_values values.now)) }
 {
     match values.get(at) {
         Some(Some(seen)) => Ok(seen.doc()),
@@ -29,7 +30,7 @@ pub(crate) fn value<'a, 'b>(
 
 /// The first value, given out.
 pub(crate) fn first<'a>(values: Vec<Option<Seen<'a>>>) -> Result<Seen<'a>, QueryFault>
-    ensures { GivesBy seen_doc (value_in 0 (seen_values values.entry.items)) result }
+    ensures { Answers is_memory seen_doc result (value_in 0 (seen_values values.entry.items)) }
 {
     for value in values {
         return match value {
@@ -46,7 +47,7 @@ pub(crate) fn of_one<'a>(
     function: Function,
     seen: Seen<'a>,
 ) -> Result<Seen<'a>, QueryFault>
-    ensures { GivesBy seen_doc (of_one function (seen_doc seen.entry)) result }
+    ensures { Answers is_memory seen_doc result (of_one function (seen_doc seen.entry)) }
 {
     if let Function::ToArray = function {
         return Ok(lists::to_array(alloc, seen)?);
@@ -59,7 +60,7 @@ pub(crate) fn of_one<'a>(
 
 /// A function of one value that makes its result.
 fn of_doc(alloc: Global, function: Function, doc: &Doc) -> Result<Doc, QueryFault>
-    ensures { function ≢ ToArray → Gives (of_one function doc.now) result }
+    ensures { function ≢ ToArray → Answers is_memory (λ x. x) result (of_one function doc.now) }
 {
     match function {
         Function::Abs => numbers::abs(doc),
@@ -87,7 +88,7 @@ pub(crate) fn of_two<'a>(
     left: &Doc,
     right: &Doc,
 ) -> Result<Seen<'a>, QueryFault>
-    ensures { GivesBy seen_doc (of_two function left.now right.now) result }
+    ensures { Answers is_memory seen_doc result (of_two function left.now right.now) }
 {
     match of_docs(alloc, function, left, right) {
         Ok(doc) => Ok(Seen::Made(doc)),
@@ -96,7 +97,7 @@ pub(crate) fn of_two<'a>(
 }
 
 fn of_docs(alloc: Global, function: Function, left: &Doc, right: &Doc) -> Result<Doc, QueryFault>
-    ensures { Gives (of_two function left.now right.now) result }
+    ensures { Answers is_memory (λ x. x) result (of_two function left.now right.now) }
 {
     match function {
         Function::Contains => text_functions::contains(left, right),
@@ -113,7 +114,7 @@ pub(crate) fn of_many<'a>(
     function: Function,
     values: Vec<Option<Seen<'a>>>,
 ) -> Result<Seen<'a>, QueryFault>
-    ensures { GivesBy seen_doc (many_of function (seen_values values.entry.items)) result }
+    ensures { Answers is_memory seen_doc result (many_of function (seen_values values.entry.items)) }
 {
     if !are_values(values.as_slice()) {
         return Err(QueryFault::TypeFault);

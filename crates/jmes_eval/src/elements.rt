@@ -1,7 +1,7 @@
 //! The elements of lists and the values of objects, to look at.
 ghost use Rattle.std.specs.Prelude.{◌≡◌, IfOk};
 ghost use Rattle.jmes_eval.specs.Lists.{values_in};
-ghost use Rattle.jmes_eval.specs.Seen.{looked};
+ghost use Rattle.jmes_eval.specs.Inside.{looked};
 
 use json_doc::{Doc, OutOfMemory, Pair};
 use std::alloc::Global;

@@ -3,12 +3,12 @@
 
 ghost use Rattle.std.specs.Prelude.{◌≡◌, ◌<◌, true, map, option_map, IsTrue, IfOk, Some};
 ghost use Rattle.json_doc.specs.declared.doc.Doc.TheVariants.{Null, Flag};
-ghost use Rattle.jmes_eval.specs.Answers.{Gives, GivesBy};
-ghost use Rattle.jmes_eval.specs.Entries.{entries_of};
+ghost use Rattle.texts.specs.Calls.{Answers};
+ghost use Rattle.jmes_eval.specs.Answers.{is_memory};
+ghost use Rattle.jmes_eval.specs.Inside.{entries_of, seen_all, seen_doc, seen_values};
 ghost use Rattle.jmes_eval.specs.Kinds.{items_of};
 ghost use Rattle.jmes_eval.specs.Meaning.{arguments_at, both, call_of, chain_of, compare_of, either, hash_of, is_projection, joined_lists, keyed, list_of, map_of, max_by_of, meaning, min_by_of, of_elements, operand_of, part_of, passes_of, piped, project, expref_in, run, sieved, sort_by_of, step_of};
 ghost use Rattle.jmes_eval.specs.Parts.{argument_with, chain_with, compared_with, operand_with, pair_with, step_with, steps_with};
-ghost use Rattle.jmes_eval.specs.Seen.{seen_all, seen_doc, seen_values};
 ghost use Rattle.jmes_eval.specs.Weights.{arguments_weight, weight};
 
 use crate::QueryFault;
@@ -29,7 +29,7 @@ use std::alloc::Global;
 /// `TypeFault` comes exactly where a function is called with a value of another kind than it takes, and
 /// `NumberTooWide` where the value of one is no `Decimal`; of several faults the first that is met.
 pub fn search(alloc: Global, expr: &Expr, doc: &Doc) -> Result<Doc, QueryFault>
-    ensures { Gives (meaning expr.now doc.now) result }
+    ensures { Answers is_memory (λ x. x) result (meaning expr.now doc.now) }
 {
     let seen = look(alloc, expr, Seen::At(doc))?;
     Ok(seen.into_doc(alloc)?)
@@ -39,7 +39,7 @@ pub fn search(alloc: Global, expr: &Expr, doc: &Doc) -> Result<Doc, QueryFault>
 /// place in the document or in the expression.
 #[cycle(query)]
 fn look<'a>(alloc: Global, expr: &'a Expr, at: Seen<'a>) -> Result<Seen<'a>, QueryFault>
-    ensures { GivesBy seen_doc (meaning expr.now (seen_doc at.entry)) result }
+    ensures { Answers is_memory seen_doc result (meaning expr.now (seen_doc at.entry)) }
 {
     match expr {
         Expr::Pipe(parts) => look_through(alloc, parts.as_slice(), at),
@@ -51,7 +51,7 @@ fn look<'a>(alloc: Global, expr: &'a Expr, at: Seen<'a>) -> Result<Seen<'a>, Que
 /// The same for an expression that asks its document more than once.
 #[cycle(query)]
 fn look_again<'a>(alloc: Global, expr: &'a Expr, at: Seen<'a>) -> Result<Seen<'a>, QueryFault>
-    ensures { GivesBy seen_doc (meaning expr.now (seen_doc at.entry)) result }
+    ensures { Answers is_memory seen_doc result (meaning expr.now (seen_doc at.entry)) }
 {
     match at {
         Seen::At(place) => look_at(alloc, expr, place),
@@ -64,7 +64,7 @@ fn look_again<'a>(alloc: Global, expr: &'a Expr, at: Seen<'a>) -> Result<Seen<'a
 
 #[cycle(query)]
 fn look_at<'a>(alloc: Global, expr: &'a Expr, doc: &'a Doc) -> Result<Seen<'a>, QueryFault>
-    ensures { GivesBy seen_doc (meaning expr.now doc.now) result }
+    ensures { Answers is_memory seen_doc result (meaning expr.now doc.now) }
 {
     match expr {
         Expr::Pipe(parts) => look_through(alloc, parts.as_slice(), Seen::At(doc)),
@@ -77,7 +77,7 @@ fn look_at<'a>(alloc: Global, expr: &'a Expr, doc: &'a Doc) -> Result<Seen<'a>, 
 
 #[cycle(query)]
 fn look_through<'a>(alloc: Global, parts: &'a [Expr], at: Seen<'a>) -> Result<Seen<'a>, QueryFault>
-    ensures { GivesBy seen_doc (piped (map meaning parts.now) (seen_doc at.entry)) result }
+    ensures { Answers is_memory seen_doc result (piped (map meaning parts.now) (seen_doc at.entry)) }
 {
     let mut at = at;
     for part in parts {
@@ -88,7 +88,7 @@ fn look_through<'a>(alloc: Global, parts: &'a [Expr], at: Seen<'a>) -> Result<Se
 
 #[cycle(query)]
 fn either<'a>(alloc: Global, sides: &'a [Expr], doc: &'a Doc) -> Result<Seen<'a>, QueryFault>
-    ensures { GivesBy seen_doc (either (map meaning sides.now) Null doc.now) result }
+    ensures { Answers is_memory seen_doc result (either (map meaning sides.now) Null doc.now) }
 {
     let mut at = Seen::Made(Doc::Null);
     for side in sides {
@@ -102,7 +102,7 @@ fn either<'a>(alloc: Global, sides: &'a [Expr], doc: &'a Doc) -> Result<Seen<'a>
 
 #[cycle(query)]
 fn both<'a>(alloc: Global, sides: &'a [Expr], doc: &'a Doc) -> Result<Seen<'a>, QueryFault>
-    ensures { GivesBy seen_doc (both (map meaning sides.now) (Flag true) doc.now) result }
+    ensures { Answers is_memory seen_doc result (both (map meaning sides.now) (Flag true) doc.now) }
 {
     let mut at = Seen::Made(Doc::Flag(true));
     for side in sides {
@@ -122,7 +122,7 @@ fn comparisons<'a>(
     others: &'a [Compared<Expr>],
     doc: &'a Doc,
 ) -> Result<Seen<'a>, QueryFault>
-    ensures { GivesBy seen_doc (compare_of (operand_with meaning operand.now) (map (compared_with meaning) others.now) doc.now) result }
+    ensures { Answers is_memory seen_doc result (compare_of (operand_with meaning operand.now) (map (compared_with meaning) others.now) doc.now) }
 {
     let mut at = look_at_operand(alloc, operand, Seen::At(doc))?;
     for other in others {
@@ -138,7 +138,7 @@ fn look_at_operand<'a>(
     operand: &'a Operand<Expr>,
     at: Seen<'a>,
 ) -> Result<Seen<'a>, QueryFault>
-    ensures { GivesBy seen_doc (operand_of (operand_with meaning operand.now) (seen_doc at.entry)) result }
+    ensures { Answers is_memory seen_doc result (operand_of (operand_with meaning operand.now) (seen_doc at.entry)) }
 {
     match look_along(alloc, &operand.chain, at) {
         Ok(seen) => Ok(negated(operand.negations, seen)),
@@ -153,7 +153,7 @@ fn look_along<'a>(
     chain: &'a Chain<Expr>,
     at: Seen<'a>,
 ) -> Result<Seen<'a>, QueryFault>
-    ensures { GivesBy seen_doc (chain_of (chain_with meaning chain.now) (seen_doc at.entry)) result }
+    ensures { Answers is_memory seen_doc result (chain_of (chain_with meaning chain.now) (seen_doc at.entry)) }
 {
     let mut at = walk(alloc, chain.first.as_slice(), at)?;
     for steps in chain.flattened.as_slice() {
@@ -169,7 +169,7 @@ fn flatten<'a>(
     steps: &'a List<Step<Expr>>,
     at: Seen<'a>,
 ) -> Result<Seen<'a>, QueryFault>
-    ensures { GivesBy seen_doc (project (run (steps_with meaning steps.now)) (option_map joined_lists (items_of (seen_doc at.entry)))) result }
+    ensures { Answers is_memory seen_doc result (project (run (steps_with meaning steps.now)) (option_map joined_lists (items_of (seen_doc at.entry)))) }
 {
     let places = joined_lists(alloc, at)?;
     match each_or_null(alloc, steps.as_slice(), places) {
@@ -181,7 +181,7 @@ fn flatten<'a>(
 /// The value behind steps of which a projection ends them: it applies those behind it to each element.
 #[cycle(query)]
 fn walk<'a>(alloc: Global, steps: &'a [Step<Expr>], at: Seen<'a>) -> Result<Seen<'a>, QueryFault>
-    ensures { GivesBy seen_doc (run (steps_with meaning steps.now) (seen_doc at.entry)) result }
+    ensures { Answers is_memory seen_doc result (run (steps_with meaning steps.now) (seen_doc at.entry)) }
 {
     let mut at = at;
     for (i, step) in steps.iter().enumerate() {
@@ -217,7 +217,7 @@ fn project<'a>(
     rest: &'a [Step<Expr>],
     at: Seen<'a>,
 ) -> Result<Doc, QueryFault>
-    ensures { IsTrue (is_projection step.now) → Gives (step_of (step_with meaning step.now) (run (steps_with meaning rest.now)) (seen_doc at.entry)) result }
+    ensures { IsTrue (is_projection step.now) → Answers is_memory (λ x. x) result (step_of (step_with meaning step.now) (run (steps_with meaning rest.now)) (seen_doc at.entry)) }
 {
     match step {
         Step::Values => each_or_null(alloc, rest, values(alloc, at)?),
@@ -235,7 +235,7 @@ fn each_or_null<'a>(
     steps: &'a [Step<Expr>],
     places: Option<Vec<Seen<'a>>>,
 ) -> Result<Doc, QueryFault>
-    ensures { Gives (project (run (steps_with meaning steps.now)) (option_map (λ all. seen_all all.items) places.entry)) result }
+    ensures { Answers is_memory (λ x. x) result (project (run (steps_with meaning steps.now)) (option_map (λ all. seen_all all.items) places.entry)) }
 {
     match places {
         Some(places) => each(alloc, steps, places),
@@ -249,7 +249,7 @@ fn each<'a>(
     steps: &'a [Step<Expr>],
     places: Vec<Seen<'a>>,
 ) -> Result<Doc, QueryFault>
-    ensures { Gives (project (run (steps_with meaning steps.now)) (Some (seen_all places.entry.items))) result }
+    ensures { Answers is_memory (λ x. x) result (project (run (steps_with meaning steps.now)) (Some (seen_all places.entry.items))) }
 {
     let mut made = List::new(alloc);
     for place in places {
@@ -269,7 +269,7 @@ fn filter<'a>(
     steps: &'a [Step<Expr>],
     places: Option<Vec<Seen<'a>>>,
 ) -> Result<Doc, QueryFault>
-    ensures { Gives (project (sieved (meaning test.now) (run (steps_with meaning steps.now))) (option_map (λ all. seen_all all.items) places.entry)) result }
+    ensures { Answers is_memory (λ x. x) result (project (sieved (meaning test.now) (run (steps_with meaning steps.now))) (option_map (λ all. seen_all all.items) places.entry)) }
 {
     match places {
         Some(places) => each_passing(alloc, test, steps, places),
@@ -284,7 +284,7 @@ fn each_passing<'a>(
     steps: &'a [Step<Expr>],
     places: Vec<Seen<'a>>,
 ) -> Result<Doc, QueryFault>
-    ensures { Gives (project (sieved (meaning test.now) (run (steps_with meaning steps.now))) (Some (seen_all places.entry.items))) result }
+    ensures { Answers is_memory (λ x. x) result (project (sieved (meaning test.now) (run (steps_with meaning steps.now))) (Some (seen_all places.entry.items))) }
 {
     let mut made = List::new(alloc);
     for place in places {
@@ -301,7 +301,7 @@ fn each_passing<'a>(
 /// Whether a value passes a test.
 #[cycle(query)]
 fn passes(alloc: Global, test: &Expr, doc: &Doc) -> Result<bool, QueryFault>
-    ensures { Gives (passes_of (meaning test.now) doc.now) result }
+    ensures { Answers is_memory (λ x. x) result (passes_of (meaning test.now) doc.now) }
 {
     let found = look_at(alloc, test, doc)?;
     Ok(is_true(found.doc()))
@@ -310,7 +310,7 @@ fn passes(alloc: Global, test: &Expr, doc: &Doc) -> Result<bool, QueryFault>
 /// A step that is no projection, for what the steps before it gave.
 #[cycle(query)]
 fn go_a_step<'a>(alloc: Global, step: &'a Step<Expr>, at: Seen<'a>) -> Result<Seen<'a>, QueryFault>
-    ensures { GivesBy seen_doc (part_of (step_with meaning step.now) (seen_doc at.entry)) result }
+    ensures { Answers is_memory seen_doc result (part_of (step_with meaning step.now) (seen_doc at.entry)) }
 {
     match at {
         Seen::At(place) => part(alloc, step, place),
@@ -321,7 +321,7 @@ fn go_a_step<'a>(alloc: Global, step: &'a Step<Expr>, at: Seen<'a>) -> Result<Se
 /// A step that takes what it needs of a document that was made.
 #[cycle(query)]
 fn part_of<'a>(alloc: Global, step: &'a Step<Expr>, doc: Doc) -> Result<Seen<'a>, QueryFault>
-    ensures { GivesBy seen_doc (part_of (step_with meaning step.now) doc) result }
+    ensures { Answers is_memory seen_doc result (part_of (step_with meaning step.now) doc) }
 {
     match step {
         Step::Current => Ok(Seen::Made(doc)),
@@ -337,7 +337,7 @@ fn part_of<'a>(alloc: Global, step: &'a Step<Expr>, doc: Doc) -> Result<Seen<'a>
 
 #[cycle(query)]
 fn part<'a>(alloc: Global, step: &'a Step<Expr>, doc: &'a Doc) -> Result<Seen<'a>, QueryFault>
-    ensures { GivesBy seen_doc (part_of (step_with meaning step.now) doc.now) result }
+    ensures { Answers is_memory seen_doc result (part_of (step_with meaning step.now) doc.now) }
 {
     match step {
         Step::Current => Ok(Seen::At(doc)),
@@ -358,7 +358,7 @@ fn part<'a>(alloc: Global, step: &'a Step<Expr>, doc: &'a Doc) -> Result<Seen<'a
 /// A multi-select list.
 #[cycle(query)]
 fn list<'a>(alloc: Global, exprs: &'a [Expr], doc: &'a Doc) -> Result<Seen<'a>, QueryFault>
-    ensures { GivesBy seen_doc (list_of (map meaning exprs.now) doc.now) result }
+    ensures { Answers is_memory seen_doc result (list_of (map meaning exprs.now) doc.now) }
 {
     if is_null(doc) {
         return Ok(Seen::Made(Doc::Null));
@@ -373,7 +373,7 @@ fn list<'a>(alloc: Global, exprs: &'a [Expr], doc: &'a Doc) -> Result<Seen<'a>, 
 /// A multi-select hash.
 #[cycle(query)]
 fn hash<'a>(alloc: Global, fields: &'a [Pair<Expr>], doc: &'a Doc) -> Result<Seen<'a>, QueryFault>
-    ensures { GivesBy seen_doc (hash_of (map (pair_with meaning) fields.now) doc.now) result }
+    ensures { Answers is_memory seen_doc result (hash_of (map (pair_with meaning) fields.now) doc.now) }
 {
     if is_null(doc) {
         return Ok(Seen::Made(Doc::Null));
@@ -394,7 +394,7 @@ fn call<'a>(
     arguments: &'a [Argument<Expr>],
     doc: &'a Doc,
 ) -> Result<Seen<'a>, QueryFault>
-    ensures { GivesBy seen_doc (call_of function (map (argument_with meaning) arguments.now) doc.now) result }
+    ensures { Answers is_memory seen_doc result (call_of function (map (argument_with meaning) arguments.now) doc.now) }
 {
     let values = arguments_at(alloc, arguments, doc)?;
     match form_of(function) {
@@ -423,7 +423,7 @@ fn arguments_at<'a>(
     arguments: &'a [Argument<Expr>],
     doc: &'a Doc,
 ) -> Result<Vec<Option<Seen<'a>>>, QueryFault>
-    ensures { GivesBy (λ values. seen_values values.items) (arguments_at (map (argument_with meaning) arguments.now) doc.now) result }
+    ensures { Answers is_memory (λ values. seen_values values.items) result (arguments_at (map (argument_with meaning) arguments.now) doc.now) }
 {
     let mut values = Vec::new(alloc);
     for argument in arguments {
@@ -437,7 +437,7 @@ fn arguments_at<'a>(
 
 /// The expref at a place among the arguments.
 fn expref(arguments: &[Argument<Expr>], at: usize) -> Result<&Expr, QueryFault>
-    ensures value { GivesBy (λ expr. meaning expr.now) (expref_in at (map (argument_with meaning) arguments.now)) result }
+    ensures value { Answers is_memory (λ expr. meaning expr.now) result (expref_in at (map (argument_with meaning) arguments.now)) }
     ensures within { IfOk result (λ expr. weight expr.now < arguments_weight (map (argument_with weight) arguments.now)) }
 {
     match arguments.get(at) {
@@ -450,7 +450,7 @@ fn expref(arguments: &[Argument<Expr>], at: usize) -> Result<&Expr, QueryFault>
 /// The values of an expression for the elements of a list, nulls too.
 #[cycle(query)]
 fn mapped<'a>(alloc: Global, expr: &Expr, doc: &Doc) -> Result<Seen<'a>, QueryFault>
-    ensures { GivesBy seen_doc (map_of (meaning expr.now) doc.now) result }
+    ensures { Answers is_memory seen_doc result (map_of (meaning expr.now) doc.now) }
 {
     let items = items(doc)?;
     let mut made = List::new(alloc);
@@ -468,7 +468,7 @@ fn by_keys<'a>(
     doc: &Doc,
     expr: &Expr,
 ) -> Result<Seen<'a>, QueryFault>
-    ensures { GivesBy seen_doc (of_elements function doc.now (meaning expr.now)) result }
+    ensures { Answers is_memory seen_doc result (of_elements function doc.now (meaning expr.now)) }
 {
     match function {
         Function::SortBy => sort_by(alloc, doc, expr),
@@ -480,7 +480,7 @@ fn by_keys<'a>(
 
 #[cycle(query)]
 fn sort_by<'a>(alloc: Global, doc: &Doc, expr: &Expr) -> Result<Seen<'a>, QueryFault>
-    ensures { GivesBy seen_doc (sort_by_of doc.now (meaning expr.now)) result }
+    ensures { Answers is_memory seen_doc result (sort_by_of doc.now (meaning expr.now)) }
 {
     let mut entries = keyed(alloc, expr, items(doc)?)?;
     ascend(&mut entries)?;
@@ -489,7 +489,7 @@ fn sort_by<'a>(alloc: Global, doc: &Doc, expr: &Expr) -> Result<Seen<'a>, QueryF
 
 #[cycle(query)]
 fn min_by<'a>(alloc: Global, doc: &Doc, expr: &Expr) -> Result<Seen<'a>, QueryFault>
-    ensures { GivesBy seen_doc (min_by_of doc.now (meaning expr.now)) result }
+    ensures { Answers is_memory seen_doc result (min_by_of doc.now (meaning expr.now)) }
 {
     let entries = keyed(alloc, expr, items(doc)?)?;
     let least = least_entry(entries.as_slice());
@@ -498,7 +498,7 @@ fn min_by<'a>(alloc: Global, doc: &Doc, expr: &Expr) -> Result<Seen<'a>, QueryFa
 
 #[cycle(query)]
 fn max_by<'a>(alloc: Global, doc: &Doc, expr: &Expr) -> Result<Seen<'a>, QueryFault>
-    ensures { GivesBy seen_doc (max_by_of doc.now (meaning expr.now)) result }
+    ensures { Answers is_memory seen_doc result (max_by_of doc.now (meaning expr.now)) }
 {
     let entries = keyed(alloc, expr, items(doc)?)?;
     let greatest = greatest_entry(entries.as_slice());
@@ -508,7 +508,7 @@ fn max_by<'a>(alloc: Global, doc: &Doc, expr: &Expr) -> Result<Seen<'a>, QueryFa
 /// The elements with their keys, each of which is of the kind of the first.
 #[cycle(query)]
 fn keyed<'a>(alloc: Global, expr: &'a Expr, items: &'a [Doc]) -> Result<Vec<Entry<'a>>, QueryFault>
-    ensures { GivesBy (λ entries. entries_of entries.items) (keyed (meaning expr.now) items.now) result }
+    ensures { Answers is_memory (λ entries. entries_of entries.items) result (keyed (meaning expr.now) items.now) }
 {
     let mut entries = Vec::new(alloc);
     for item in items {

@@ -2,9 +2,8 @@
 ghost use Rattle.std.specs.Option.{option_copied};
 ghost use Rattle.std.specs.Prelude.{◌≡◌, map, option_map, IfOk};
 ghost use Rattle.json_doc.specs.declared.doc.Doc.TheVariants.{Items};
-ghost use Rattle.jmes_eval.specs.Entries.{entries_of, entry_of, fits_first};
+ghost use Rattle.jmes_eval.specs.Inside.{entries_of, entry_of, fits_first, seen_doc};
 ghost use Rattle.jmes_eval.specs.Meaning.{element_in, fits};
-ghost use Rattle.jmes_eval.specs.Seen.{seen_doc};
 
 use crate::seen::Seen;
 use crate::sorting::Entry;

@@ -1,6 +1,7 @@
 //! Documents by their kinds.
 ghost use Rattle.std.specs.Prelude.{◌≡◌};
-ghost use Rattle.jmes_eval.specs.Answers.{Gives, GivesBy, due};
+ghost use Rattle.texts.specs.Calls.{Answers};
+ghost use Rattle.jmes_eval.specs.Answers.{is_memory, due};
 ghost use Rattle.jmes_eval.specs.Kinds.{number_of, text_of, items_of, fields_of, is_null, truth_of, type_of};
 
 use crate::QueryFault;
@@ -8,7 +9,7 @@ use json_doc::{Decimal, Doc, List, Pairs, Text};
 
 /// The number of a document that is one.
 pub(crate) fn number(doc: &Doc) -> Result<Decimal, QueryFault>
-    ensures { Gives (due (number_of doc.now)) result }
+    ensures { Answers is_memory (λ x. x) result (due (number_of doc.now)) }
 {
     match doc {
         Doc::Number(n) => Ok(*n),
@@ -18,7 +19,7 @@ pub(crate) fn number(doc: &Doc) -> Result<Decimal, QueryFault>
 
 /// The text of a document that is one.
 pub(crate) fn text(doc: &Doc) -> Result<&Text, QueryFault>
-    ensures { GivesBy (λ text. text.now) (due (text_of doc.now)) result }
+    ensures { Answers is_memory (λ text. text.now) result (due (text_of doc.now)) }
 {
     match doc {
         Doc::Str(text) => Ok(text),
@@ -28,7 +29,7 @@ pub(crate) fn text(doc: &Doc) -> Result<&Text, QueryFault>
 
 /// The elements of a list.
 pub(crate) fn items(doc: &Doc) -> Result<&[Doc], QueryFault>
-    ensures { GivesBy (λ items. items.now) (due (items_of doc.now)) result }
+    ensures { Answers is_memory (λ items. items.now) result (due (items_of doc.now)) }
 {
     match doc {
         Doc::Items(items) => Ok(items.as_slice()),
@@ -38,7 +39,7 @@ pub(crate) fn items(doc: &Doc) -> Result<&[Doc], QueryFault>
 
 /// The pairs of an object.
 pub(crate) fn fields(doc: &Doc) -> Result<&Pairs<Doc>, QueryFault>
-    ensures { GivesBy (λ fields. fields.now) (due (fields_of doc.now)) result }
+    ensures { Answers is_memory (λ fields. fields.now) result (due (fields_of doc.now)) }
 {
     match doc {
         Doc::Fields(fields) => Ok(fields),

@@ -3,9 +3,10 @@ ghost use Rattle.std.specs.Prelude.{◌≡◌, length, reverse, map, IfOk};
 ghost use Rattle.std.specs.Str.{chars};
 ghost use Rattle.json_doc.specs.declared.doc.Doc.TheVariants.{Str, Items};
 ghost use Rattle.texts.specs.Keys.{keys};
-ghost use Rattle.jmes_eval.specs.Answers.{Gives};
+ghost use Rattle.texts.specs.Calls.{Answers};
+ghost use Rattle.jmes_eval.specs.Answers.{is_memory};
 ghost use Rattle.jmes_eval.specs.Lists.{keys_of, length_of, reverse_of, to_array_of, values_of};
-ghost use Rattle.jmes_eval.specs.Seen.{looked, seen_doc};
+ghost use Rattle.jmes_eval.specs.Inside.{looked, seen_doc};
 
 use crate::QueryFault;
 use crate::kinds::fields;
@@ -16,7 +17,7 @@ use std::alloc::{AllocError, Global};
 
 /// How many characters, elements or pairs a document has.
 pub(crate) fn length(doc: &Doc) -> Result<Doc, QueryFault>
-    ensures { Gives (length_of doc.now) result }
+    ensures { Answers is_memory (λ x. x) result (length_of doc.now) }
 {
     match doc {
         Doc::Str(text) => count(characters(text.as_str())),
@@ -34,7 +35,7 @@ fn characters(text: &str) -> usize
 
 /// The characters or elements from the last to the first.
 pub(crate) fn reverse(alloc: Global, doc: &Doc) -> Result<Doc, QueryFault>
-    ensures { Gives (reverse_of doc.now) result }
+    ensures { Answers is_memory (λ x. x) result (reverse_of doc.now) }
 {
     match doc {
         Doc::Str(text) => Ok(Doc::Str(reversed_text(alloc, text)?)),
@@ -103,7 +104,7 @@ pub(crate) fn to_array<'a>(alloc: Global, seen: Seen<'a>) -> Result<Seen<'a>, Ou
 
 /// The keys of an object, in its order.
 pub(crate) fn keys(alloc: Global, doc: &Doc) -> Result<Doc, QueryFault>
-    ensures { Gives (keys_of doc.now) result }
+    ensures { Answers is_memory (λ x. x) result (keys_of doc.now) }
 {
     let fields = fields(doc)?;
     Ok(Doc::Items(key_texts(alloc, fields.as_slice())?))
@@ -121,7 +122,7 @@ fn key_texts(alloc: Global, fields: &[Pair<Doc>]) -> Result<List<Doc>, OutOfMemo
 
 /// The values of an object, in its order.
 pub(crate) fn values(alloc: Global, doc: &Doc) -> Result<Doc, QueryFault>
-    ensures { Gives (values_of doc.now) result }
+    ensures { Answers is_memory (λ x. x) result (values_of doc.now) }
 {
     let fields = fields(doc)?;
     let places = crate::elements::values(alloc, fields.as_slice())?;

@@ -3,9 +3,10 @@ ghost use Rattle.std.specs.Prelude.{◌≡◌, [], IfOk, OnOk};
 ghost use Rattle.json_doc.specs.Gathered.{pairs_of};
 ghost use Rattle.json_doc.specs.Grammar.{put_all};
 ghost use Rattle.texts.specs.Keys.{put};
-ghost use Rattle.jmes_eval.specs.Answers.{Gives};
+ghost use Rattle.texts.specs.Calls.{Answers};
+ghost use Rattle.jmes_eval.specs.Answers.{is_memory};
 ghost use Rattle.jmes_eval.specs.Many.{merged_after};
-ghost use Rattle.jmes_eval.specs.Seen.{seen_values};
+ghost use Rattle.jmes_eval.specs.Inside.{seen_values};
 
 use crate::QueryFault;
 use crate::kinds::fields;
@@ -16,7 +17,7 @@ use std::alloc::Global;
 
 /// The pairs of objects, one after another: later values win, first places stay.
 pub(crate) fn merge(alloc: Global, values: &[Option<Seen<'_>>]) -> Result<Doc, QueryFault>
-    ensures { Gives (merged_after [] (seen_values values.now)) result }
+    ensures { Answers is_memory (λ x. x) result (merged_after [] (seen_values values.now)) }
 {
     let mut made = IndexMap::new(alloc);
     for value in values {

@@ -1,7 +1,8 @@
 //! The functions on numbers.
 ghost use Rattle.std.specs.Prelude.{◌≡◌, ◌<◌, ◌≤◌, ◌/◌, ◌^◌, if◌then◌else◌, IfOk};
 ghost use Rattle.json_doc.specs.Exact.{HasValue};
-ghost use Rattle.jmes_eval.specs.Answers.{Gives, GivesBy, all_of, due};
+ghost use Rattle.texts.specs.Calls.{Answers};
+ghost use Rattle.jmes_eval.specs.Answers.{is_memory, all_of, due};
 ghost use Rattle.jmes_eval.specs.Kinds.{number_of};
 ghost use Rattle.std.specs.List.{list_any};
 ghost use Rattle.json_doc.specs.Grammar.{is_blank};
@@ -15,25 +16,25 @@ use std::alloc::Global;
 
 /// A count, as a number.
 pub(crate) fn count(n: usize) -> Result<Doc, QueryFault>
-    ensures { Gives (count_of n) result }
+    ensures { Answers is_memory (λ x. x) result (count_of n) }
 {
     Ok(Doc::Number(whole(false, n as u128)))
 }
 
 pub(crate) fn abs(doc: &Doc) -> Result<Doc, QueryFault>
-    ensures { Gives (abs_of doc.now) result }
+    ensures { Answers is_memory (λ x. x) result (abs_of doc.now) }
 {
     Ok(Doc::Number(size(number(doc)?)))
 }
 
 pub(crate) fn floor(doc: &Doc) -> Result<Doc, QueryFault>
-    ensures { Gives (floor_of doc.now) result }
+    ensures { Answers is_memory (λ x. x) result (floor_of doc.now) }
 {
     Ok(Doc::Number(lower(number(doc)?)))
 }
 
 pub(crate) fn ceil(doc: &Doc) -> Result<Doc, QueryFault>
-    ensures { Gives (ceil_of doc.now) result }
+    ensures { Answers is_memory (λ x. x) result (ceil_of doc.now) }
 {
     Ok(Doc::Number(higher(number(doc)?)))
 }
@@ -116,7 +117,7 @@ fn unit(scale: u8) -> u128
 
 /// The sum of a list of numbers, added from the left.
 pub(crate) fn sum(alloc: Global, doc: &Doc) -> Result<Doc, QueryFault>
-    ensures { Gives (sum_of doc.now) result }
+    ensures { Answers is_memory (λ x. x) result (sum_of doc.now) }
 {
     let numbers = numbers(alloc, items(doc)?)?;
     match total(numbers.as_slice()) {
@@ -127,7 +128,7 @@ pub(crate) fn sum(alloc: Global, doc: &Doc) -> Result<Doc, QueryFault>
 
 /// The numbers of a list that has only numbers.
 fn numbers(alloc: Global, items: &[Doc]) -> Result<Vec<Decimal>, QueryFault>
-    ensures { GivesBy (λ numbers. numbers.items) (due (all_of number_of items.now)) result }
+    ensures { Answers is_memory (λ numbers. numbers.items) result (due (all_of number_of items.now)) }
 {
     let mut numbers = Vec::with_capacity(alloc, items.len())?;
     for item in items {

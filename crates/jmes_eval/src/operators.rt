@@ -2,7 +2,7 @@
 ghost use Rattle.std.specs.Prelude.{◌≡◌};
 ghost use Rattle.jmes_eval.specs.Kinds.{number_of};
 ghost use Rattle.jmes_eval.specs.Meaning.{compared, holds, negated, ordered};
-ghost use Rattle.jmes_eval.specs.Seen.{seen_doc};
+ghost use Rattle.jmes_eval.specs.Inside.{seen_doc};
 
 use crate::equality::same;
 use crate::kinds::is_true;

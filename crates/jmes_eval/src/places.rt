@@ -4,7 +4,7 @@ ghost use Rattle.std.specs.Prelude.{◌≡◌};
 ghost use Rattle.texts.specs.Keys.{value_at};
 ghost use Rattle.jmes_eval.specs.Meaning.{field_of, index_of};
 ghost use Rattle.jmes_eval.specs.Orders.{doc_or_null};
-ghost use Rattle.jmes_eval.specs.Seen.{seen_doc};
+ghost use Rattle.jmes_eval.specs.Inside.{seen_doc};
 ghost use Rattle.jmes_eval.specs.Slices.{element_at};
 
 use crate::seen::Seen;

@@ -5,7 +5,7 @@ ghost use Rattle.std.specs.Option.{option_copied};
 ghost use Rattle.jmes_eval.specs.Kinds.{fields_of, items_of};
 ghost use Rattle.jmes_eval.specs.Lists.{values_in};
 ghost use Rattle.jmes_eval.specs.Meaning.{joined_lists};
-ghost use Rattle.jmes_eval.specs.Seen.{seen_all, seen_doc};
+ghost use Rattle.jmes_eval.specs.Inside.{seen_all, seen_doc};
 ghost use Rattle.jmes_eval.specs.Slices.{sliced};
 
 use crate::seen::Seen;

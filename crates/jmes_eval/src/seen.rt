@@ -1,7 +1,8 @@
 ghost use Rattle.std.specs.Prelude.{◌≡◌, IfOk};
 ghost use Rattle.json_doc.specs.declared.doc.Doc.{Doc};
-ghost use Rattle.jmes_eval.specs.Answers.{Answer, Gives, GivesBy};
-ghost use Rattle.jmes_eval.specs.Seen.{seen_doc};
+ghost use Rattle.texts.specs.Calls.{Answers};
+ghost use Rattle.jmes_eval.specs.Answers.{Answer, is_memory};
+ghost use Rattle.jmes_eval.specs.Inside.{seen_doc};
 
 use crate::QueryFault;
 use json_doc::{Doc, OutOfMemory, copy};
@@ -39,7 +40,7 @@ impl Seen<'_> {
 
 /// A document that was made.
 pub(crate) fn made<'a>(doc: Result<Doc, QueryFault>) -> Result<Seen<'a>, QueryFault>
-    ensures { (wanted : Answer Doc) → Gives wanted doc → GivesBy seen_doc wanted result }
+    ensures { (wanted : Answer Doc) → Answers is_memory (λ x. x) doc wanted → Answers is_memory seen_doc result wanted }
 {
     match doc {
         Ok(doc) => Ok(Seen::Made(doc)),

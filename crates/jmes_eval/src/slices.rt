@@ -2,7 +2,7 @@
 ghost use Rattle.std.specs.Prelude.{◌≡◌, ◌<◌, List, length, reverse, slice_get, option_and_then, IfOk, IfSome};
 ghost use Rattle.std.specs.Option.{option_copied, option_map_or};
 ghost use Rattle.json_doc.specs.declared.doc.Doc.{Doc};
-ghost use Rattle.jmes_eval.specs.Seen.{seen_all};
+ghost use Rattle.jmes_eval.specs.Inside.{seen_all};
 ghost use Rattle.jmes_eval.specs.Slices.{between, element_at, every, place_of, places_to, sliced};
 
 use crate::seen::Seen;

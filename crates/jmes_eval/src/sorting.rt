@@ -1,12 +1,12 @@
 //! Lists in order.
 ghost use Rattle.std.specs.Option.{option_copied};
 ghost use Rattle.std.specs.Prelude.{◌≡◌, option_map, IfOk, OnOk};
-ghost use Rattle.jmes_eval.specs.Answers.{Gives, GivesBy};
-ghost use Rattle.jmes_eval.specs.Entries.{entries_of, entry_of};
+ghost use Rattle.texts.specs.Calls.{Answers};
+ghost use Rattle.jmes_eval.specs.Answers.{is_memory};
+ghost use Rattle.jmes_eval.specs.Inside.{entries_of, entry_of, looked};
 ghost use Rattle.jmes_eval.specs.Lists.{alike_items, is_number, is_text, max_of, min_of, sort_of};
 ghost use Rattle.jmes_eval.specs.Meaning.{key_before, key_behind};
 ghost use Rattle.jmes_eval.specs.Orders.{doc_or_null, first_of, is_before, is_behind, picked, sorted};
-ghost use Rattle.jmes_eval.specs.Seen.{looked};
 ghost use Rattle.std.specs.List.{list_all};
 
 use crate::QueryFault;
@@ -27,7 +27,7 @@ pub(crate) struct Entry<'a> {
 
 /// A list of numbers or of texts in order.
 pub(crate) fn sort(alloc: Global, doc: &Doc) -> Result<Doc, QueryFault>
-    ensures { Gives (sort_of doc.now) result }
+    ensures { Answers is_memory (λ x. x) result (sort_of doc.now) }
 {
     let places = ascending(alloc, alike_items(doc)?)?;
     Ok(copies(alloc, places.as_slice())?)
@@ -35,7 +35,7 @@ pub(crate) fn sort(alloc: Global, doc: &Doc) -> Result<Doc, QueryFault>
 
 /// The least of a list of numbers or of texts, the first of those that tie.
 pub(crate) fn min(alloc: Global, doc: &Doc) -> Result<Doc, QueryFault>
-    ensures { Gives (min_of doc.now) result }
+    ensures { Answers is_memory (λ x. x) result (min_of doc.now) }
 {
     let least = least(alike_items(doc)?);
     Ok(copy_or_null(alloc, least)?)
@@ -43,7 +43,7 @@ pub(crate) fn min(alloc: Global, doc: &Doc) -> Result<Doc, QueryFault>
 
 /// The greatest of a list of numbers or of texts, the first of those that tie.
 pub(crate) fn max(alloc: Global, doc: &Doc) -> Result<Doc, QueryFault>
-    ensures { Gives (max_of doc.now) result }
+    ensures { Answers is_memory (λ x. x) result (max_of doc.now) }
 {
     let greatest = greatest(alike_items(doc)?);
     Ok(copy_or_null(alloc, greatest)?)
@@ -51,7 +51,7 @@ pub(crate) fn max(alloc: Global, doc: &Doc) -> Result<Doc, QueryFault>
 
 /// The elements of a list of numbers or of texts.
 fn alike_items(doc: &Doc) -> Result<&[Doc], QueryFault>
-    ensures { GivesBy (λ items. items.now) (alike_items doc.now) result }
+    ensures { Answers is_memory (λ items. items.now) result (alike_items doc.now) }
 {
     let items = items(doc)?;
     if are_numbers(items) || are_texts(items) {

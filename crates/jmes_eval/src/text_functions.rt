@@ -2,7 +2,8 @@
 ghost use Rattle.std.specs.Prelude.{◌≡◌, nat_eq};
 ghost use Rattle.std.specs.List.{starts_with, ends_with};
 ghost use Rattle.std.specs.Str.{chars};
-ghost use Rattle.jmes_eval.specs.Answers.{Gives};
+ghost use Rattle.texts.specs.Calls.{Answers};
+ghost use Rattle.jmes_eval.specs.Answers.{is_memory};
 ghost use Rattle.jmes_eval.specs.Equality.{contains_item};
 ghost use Rattle.jmes_eval.specs.Texts.{contains_of, starts_with_of, ends_with_of, join_of, joined_in, is_part};
 
@@ -14,7 +15,7 @@ use std::alloc::Global;
 
 /// Whether an element equals the value, or the value is a part of the text.
 pub(crate) fn contains(doc: &Doc, value: &Doc) -> Result<Doc, QueryFault>
-    ensures { Gives (contains_of doc.now value.now) result }
+    ensures { Answers is_memory (λ x. x) result (contains_of doc.now value.now) }
 {
     match (doc, value) {
         (Doc::Items(items), _) => Ok(Doc::Flag(contains_item(items.as_slice(), value))),
@@ -42,14 +43,14 @@ fn is_part(text: &str, part: &str) -> bool
 }
 
 pub(crate) fn starts_with(doc: &Doc, front: &Doc) -> Result<Doc, QueryFault>
-    ensures { Gives (starts_with_of doc.now front.now) result }
+    ensures { Answers is_memory (λ x. x) result (starts_with_of doc.now front.now) }
 {
     let text = text(doc)?;
     Ok(Doc::Flag(begins(text.as_str(), crate::kinds::text(front)?.as_str())))
 }
 
 pub(crate) fn ends_with(doc: &Doc, back: &Doc) -> Result<Doc, QueryFault>
-    ensures { Gives (ends_with_of doc.now back.now) result }
+    ensures { Answers is_memory (λ x. x) result (ends_with_of doc.now back.now) }
 {
     let text = text(doc)?;
     Ok(Doc::Flag(ends(text.as_str(), crate::kinds::text(back)?.as_str())))
@@ -69,7 +70,7 @@ fn ends(text: &str, back: &str) -> bool
 
 /// The texts of a list with a text between each two.
 pub(crate) fn join(alloc: Global, glue: &Doc, doc: &Doc) -> Result<Doc, QueryFault>
-    ensures { Gives (join_of glue.now doc.now) result }
+    ensures { Answers is_memory (λ x. x) result (join_of glue.now doc.now) }
 {
     let glue = text(glue)?;
     let items = items(doc)?;
@@ -77,7 +78,7 @@ pub(crate) fn join(alloc: Global, glue: &Doc, doc: &Doc) -> Result<Doc, QueryFau
 }
 
 fn joined(alloc: Global, glue: &Text, items: &[Doc]) -> Result<Doc, QueryFault>
-    ensures { Gives (joined_in glue.now items.now) result }
+    ensures { Answers is_memory (λ x. x) result (joined_in glue.now items.now) }
 {
     let mut made = Text::new(alloc);
     let mut is_first = true;

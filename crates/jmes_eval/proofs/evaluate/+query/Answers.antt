@@ -1,9 +1,9 @@
 use Rattle.std.proofs.Common.{map, subst, sym, ap, ◌∙◌}
-use Rattle.jmes_eval.specs.Answers.{GivesBy}
-use Rattle.texts.specs.Calls.{◌>>=◌}
+use Rattle.jmes_eval.specs.Answers.{is_memory}
+use Rattle.texts.specs.Calls.{◌>>=◌, Answers}
 use Rattle.jmes_eval.specs.Meaning.{meaning, chain_of, compare_of, run}
 use Rattle.jmes_eval.specs.Parts.{chain_with, compared_with, operand_with, steps_with}
-use Rattle.jmes_eval.specs.Seen.{seen_doc}
+use Rattle.jmes_eval.specs.Inside.{seen_doc}
 use Rattle.jmes_eval.proofs.Meanings.{meaning-Compare}
 use Rattle.jmes_eval.proofs.Segments.{segment, segments, segments_on, segments_fail, came, ends_so}
 use Rattle.jmes_eval.proofs.evaluate.+query.Goals as goal
@@ -12,7 +12,7 @@ pub look_at-returns-in-Compare : goal.look_at-returns-in-Compare
 look_at-returns-in-Compare t c =
     let o = c.in-Compare.operand in
     let cs = c.in-Compare.others in
-    let told = subst (λ xs. GivesBy seen_doc (compare_of (operand_with meaning o) (map (compared_with meaning) xs) c.args.doc.now) c.comparisons.result) c.as_slice-in-Compare.ensures c.comparisons.ensures in
+    let told = subst (λ xs. Answers is_memory seen_doc c.comparisons.result (compare_of (operand_with meaning o) (map (compared_with meaning) xs) c.args.doc.now)) c.as_slice-in-Compare.ensures c.comparisons.ensures in
     rw (c.in-Compare.is, meaning-Compare o cs) told
 
 pub look_along-loop-steps-preserved : goal.look_along-loop-steps-preserved

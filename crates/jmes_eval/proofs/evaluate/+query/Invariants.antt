@@ -4,10 +4,9 @@ use Rattle.std.specs.Vec.Iter.{into_iter_items}
 use Rattle.json_doc.specs.declared.doc.Doc as doc
 use Rattle.json_doc.specs.Grammar.{put_all}
 use Rattle.texts.specs.Calls.{◌>>=◌}
-use Rattle.jmes_eval.specs.Entries.{entries_of}
+use Rattle.jmes_eval.specs.Inside.{entries_of, seen_doc, seen_values, seen_all}
 use Rattle.jmes_eval.specs.Meaning.{meaning, piped, either, both, comparisons, behind, run, each, sieved, values_at, pairs_at, arguments_at, mapped, keyed}
 use Rattle.jmes_eval.specs.Parts.{argument_with, chain_with, compared_with, operand_with, pair_with, step_with, steps_with}
-use Rattle.jmes_eval.specs.Seen.{seen_doc, seen_values, seen_all}
 use Rattle.jmes_eval.specs.Weights.{total, weight, step_weight, chain_weight, operand_weight, compared_weight, arguments_weight}
 use Rattle.jmes_eval.proofs.KeysSoFar.{keyed_after}
 use Rattle.jmes_eval.proofs.evaluate.+query.Given as goal

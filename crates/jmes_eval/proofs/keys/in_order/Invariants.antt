@@ -1,5 +1,5 @@
 use Rattle.std.proofs.Common.{◌≡◌, ◌++◌, drop, map}
-use Rattle.jmes_eval.specs.Entries.{entries_of}
+use Rattle.jmes_eval.specs.Inside.{entries_of}
 use Rattle.jmes_eval.proofs.keys.in_order.Given as goal
 
 abbrev pub invariant-loop-entry : goal.invariant-loop-entry

@@ -1,5 +1,5 @@
 use Rattle.std.proofs.Common.{◌≡◌, ◌++◌, drop}
-use Rattle.jmes_eval.specs.Seen.{looked}
+use Rattle.jmes_eval.specs.Inside.{looked}
 use Rattle.jmes_eval.proofs.lists.copies.Given as goal
 
 abbrev pub invariant-loop-place : goal.invariant-loop-place

@@ -1,6 +1,6 @@
 use Rattle.std.proofs.Common.{ap, ◌∙◌}
 use Rattle.jmes_eval.specs.Kinds.{truth_of}
-use Rattle.jmes_eval.specs.Seen.{seen_doc}
+use Rattle.jmes_eval.specs.Inside.{seen_doc}
 use Rattle.jmes_eval.proofs.Negations.{negated-even, negated-odd}
 use Rattle.jmes_eval.proofs.operators.negated.Goals as goal
 

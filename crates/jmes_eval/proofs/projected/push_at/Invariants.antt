@@ -1,5 +1,5 @@
 use Rattle.std.proofs.Common.{◌≡◌, ◌++◌, drop}
-use Rattle.jmes_eval.specs.Seen.{seen_all}
+use Rattle.jmes_eval.specs.Inside.{seen_all}
 use Rattle.jmes_eval.proofs.projected.push_at.Given as goal
 
 abbrev pub invariant-loop-item : goal.invariant-loop-item

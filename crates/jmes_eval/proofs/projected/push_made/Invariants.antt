@@ -1,6 +1,6 @@
 use Rattle.std.proofs.Common.{◌≡◌, ◌++◌}
 use Rattle.std.specs.Vec.Iter.{into_iter_items}
-use Rattle.jmes_eval.specs.Seen.{seen_all}
+use Rattle.jmes_eval.specs.Inside.{seen_all}
 use Rattle.jmes_eval.proofs.projected.push_made.Given as goal
 
 abbrev pub invariant-loop-item : goal.invariant-loop-item

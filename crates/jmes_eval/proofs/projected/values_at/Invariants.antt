@@ -1,6 +1,6 @@
 use Rattle.std.proofs.Common.{◌≡◌, ◌++◌, drop}
 use Rattle.jmes_eval.specs.Lists.{values_in}
-use Rattle.jmes_eval.specs.Seen.{seen_all}
+use Rattle.jmes_eval.specs.Inside.{seen_all}
 use Rattle.jmes_eval.proofs.projected.values_at.Given as goal
 
 abbrev pub invariant-loop-field : goal.invariant-loop-field

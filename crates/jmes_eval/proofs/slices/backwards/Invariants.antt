@@ -1,6 +1,6 @@
 use Rattle.std.proofs.Common.{◌≡◌, ◌++◌, length}
 use Rattle.std.specs.Prelude.{reverse}
-use Rattle.jmes_eval.specs.Seen.{seen_all}
+use Rattle.jmes_eval.specs.Inside.{seen_all}
 use Rattle.jmes_eval.specs.Slices.{every}
 use Rattle.jmes_eval.proofs.slices.backwards.Given as goal
 

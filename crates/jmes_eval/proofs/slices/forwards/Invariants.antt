@@ -1,5 +1,5 @@
 use Rattle.std.proofs.Common.{◌≡◌, ◌++◌, length}
-use Rattle.jmes_eval.specs.Seen.{seen_all}
+use Rattle.jmes_eval.specs.Inside.{seen_all}
 use Rattle.jmes_eval.specs.Slices.{every}
 use Rattle.jmes_eval.proofs.slices.forwards.Given as goal
 

@@ -1,10 +1,9 @@
 use Rattle.std.proofs.Common.{◌≡◌, rules, ap, ◌∙◌}
 use Rattle.std.specs.Ordering.{is_lt}
 use Rattle.std.proofs.lemmas.List.Sorted.{answers_always}
-use Rattle.jmes_eval.specs.Entries.{entry_of, entries_of}
+use Rattle.jmes_eval.specs.Inside.{entry_of, entries_of, seen_doc}
 use Rattle.jmes_eval.specs.Meaning.{key_before}
 use Rattle.jmes_eval.specs.Orders.{is_before}
-use Rattle.jmes_eval.specs.Seen.{seen_doc}
 use Rattle.jmes_eval.proofs.KeyOrder.{before_order}
 use Rattle.jmes_eval.proofs.StableSorts.{sorted-is, sorted-map}
 use Rattle.jmes_eval.proofs.sorting.ascend.Goals as goal

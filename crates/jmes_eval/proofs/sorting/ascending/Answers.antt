@@ -2,7 +2,7 @@ use Rattle.std.proofs.Common.{◌≡◌, rules, ap, ◌∙◌}
 use Rattle.std.specs.Ordering.{is_lt}
 use Rattle.std.proofs.lemmas.List.Sorted.{answers_always}
 use Rattle.jmes_eval.specs.Orders.{is_before, sorted}
-use Rattle.jmes_eval.specs.Seen.{looked}
+use Rattle.jmes_eval.specs.Inside.{looked}
 use Rattle.jmes_eval.proofs.KeyOrder.{before_order}
 use Rattle.jmes_eval.proofs.StableSorts.{sorted-is, sorted-map}
 use Rattle.jmes_eval.proofs.sorting.ascending.Goals as goal

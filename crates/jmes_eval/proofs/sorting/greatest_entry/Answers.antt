@@ -1,5 +1,5 @@
 use Rattle.std.proofs.Common.{arith}
-use Rattle.jmes_eval.specs.Entries.{entry_of}
+use Rattle.jmes_eval.specs.Inside.{entry_of}
 use Rattle.jmes_eval.specs.Meaning.{key_behind}
 use Rattle.jmes_eval.proofs.FirstInOrder.{first_more_seen}
 use Rattle.jmes_eval.proofs.sorting.greatest_entry.Goals as goal
