@@ -1,0 +1,6 @@
+use Rattle.std.proofs.Common.{◌≡◌, take}
+use Rattle.resp_parser.specs.Values.{values_of}
+use Rattle.resp_parser.proofs.values.copied_values.Given as goal
+
+abbrev pub invariant-loop-member : goal.invariant-loop-member
+invariant-loop-member l = l.values.items ≡ values_of (take l.member-index l.members) l.fields

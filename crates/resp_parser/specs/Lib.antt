@@ -1,0 +1,15 @@
+pub mod Bodies
+pub mod Cuts
+pub mod Ends
+pub mod Errors
+pub mod FaultTexts
+pub mod FirstFault
+pub mod Headers
+pub mod Kept
+pub mod Kinds
+pub mod Laws
+pub mod Members
+pub mod Parsed
+pub mod Paths
+pub mod Steps
+pub mod Values
