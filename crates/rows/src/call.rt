@@ -1,19 +1,11 @@
-use crate::{documents, expressions, formats, lines, models, queries, settings, signing, values};
+use crate::{documents, expressions, formats, queries, settings, signing};
 use json_doc::{OutOfMemory, Text};
-use percent_encoding::percent_decode_str;
+use row_words::{unknown, words};
 use std::alloc::Global;
 
 /// The answer of a line.
 pub fn answer(alloc: Global, line: &str) -> Result<Text, OutOfMemory> {
-    let mut words = Vec::new(alloc);
-    for word in line.split('\t') {
-        words.push(bytes(alloc, word)?)?;
-    }
-    match words.as_slice() {
-        [call, words @ ..] if call.as_slice() == b"head".as_slice() => lines::command(alloc, words),
-        [call, members, row, words @ ..] if call.as_slice() == b"line".as_slice() => {
-            lines::line(alloc, members.as_slice(), row.as_slice(), words)
-        }
+    match words(alloc, line)?.as_slice() {
         [call, text] => of_one(alloc, call.as_slice(), text.as_slice()),
         [call, first, second] => of_two(
             alloc,
@@ -54,14 +46,7 @@ fn of_one(alloc: Global, call: &[u8], text: &[u8]) -> Result<Text, OutOfMemory> 
         b"parse" => expressions::tree_of(alloc, text),
         b"is-read" => expressions::is_read(alloc, text),
         b"is-path" => expressions::is_chain(alloc, text),
-        b"arg-name" => lines::name(alloc, text),
-        b"command-name" => models::command(alloc, text),
-        b"waiters" => models::waiters_fault(alloc, text),
-        b"paginators" => models::paginators_fault(alloc, text),
-        b"model" => models::model_fault(alloc, text),
-        b"metadata" => models::metadata(alloc, text),
         b"settings-paths" => settings::paths(alloc, text),
-        b"to-doc" => values::to_document(alloc, text),
         _ => unknown(alloc),
     }
 }
@@ -70,26 +55,8 @@ fn of_two(alloc: Global, call: &[u8], first: &[u8], second: &[u8]) -> Result<Tex
     match call {
         b"print-table" => formats::table_of(alloc, first, second),
         b"query" => queries::found(alloc, first, second),
-        b"refusal" => models::refusal(alloc, first, second),
-        b"operation" => models::operation(alloc, first, second),
-        b"row" => models::row(alloc, first, second),
-        b"waiter" => models::waiter(alloc, first, second),
         b"hmac" => signing::keyed_hash(alloc, first, second),
         b"sections" => settings::sections(alloc, first, second),
-        b"validate" => values::faults(alloc, first, second),
-        b"table" => values::table(alloc, first, second),
-        b"from-wire" => values::of_token(alloc, first, second),
         _ => unknown(alloc),
     }
-}
-
-/// The bytes that a word of a line stands for.
-fn bytes(alloc: Global, word: &str) -> Result<Vec<u8>, OutOfMemory> {
-    let mut bytes = Vec::new(alloc);
-    percent_decode_str(word).append_to(&mut bytes)?;
-    Ok(bytes)
-}
-
-fn unknown(alloc: Global) -> Result<Text, OutOfMemory> {
-    Text::from_str(alloc, "There is no such call")
 }

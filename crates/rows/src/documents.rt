@@ -1,7 +1,7 @@
 //! Reading and printing of JSON documents.
 use json_doc::{OutOfMemory, Text, compact, copy, indented, is_json_text, read};
+use row_words::told;
 use std::alloc::Global;
-use std::fmt::Display;
 
 /// A document on one line, or why the bytes are none.
 pub fn compact_of(alloc: Global, bytes: &[u8]) -> Result<Text, OutOfMemory> {
@@ -25,10 +25,4 @@ pub fn is_json(alloc: Global, bytes: &[u8]) -> Result<Text, OutOfMemory> {
     } else {
         Text::from_str(alloc, "no JSON")
     }
-}
-
-/// What is told of a fault.
-pub fn told(alloc: Global, fault: &impl Display) -> Result<Text, OutOfMemory> {
-    let text = format!(in alloc; "{fault}")?;
-    Ok(Text::from_string(text))
 }

@@ -1,7 +1,7 @@
 //! Expressions of queries and their trees.
-use crate::documents::told;
 use jmes_syntax::{Expr, is_path, parse};
 use json_doc::{OutOfMemory, Text};
+use row_words::{text_of, told};
 use std::alloc::Global;
 
 /// How the text of a tree is made shorter: the left text is written as the right one, in this order.
@@ -55,11 +55,6 @@ pub fn is_chain(alloc: Global, text: &[u8]) -> Result<Text, OutOfMemory> {
         Ok(_) => Text::from_str(alloc, "no path"),
         Err(fault) => told(alloc, &fault),
     }
-}
-
-/// The text of bytes in UTF-8; of others, an empty one.
-pub fn text_of(alloc: Global, bytes: &[u8]) -> Result<Text, OutOfMemory> {
-    Text::from_str(alloc, std::str::from_utf8(bytes).unwrap_or(""))
 }
 
 fn short(alloc: Global, expr: &Expr) -> Result<Text, OutOfMemory> {

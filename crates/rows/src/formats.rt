@@ -1,7 +1,6 @@
 //! The three formats of results.
-use crate::documents::told;
-use crate::expressions::text_of as title_of;
 use json_doc::{OutOfMemory, Text, read};
+use row_words::{text_of as title_of, told};
 use std::alloc::Global;
 
 /// A document as JSON.

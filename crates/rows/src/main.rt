@@ -1,18 +1,14 @@
-//! Worked rows: each line of standard input is a call and its arguments with a tab between each two,
-//! where `%` and two hexadecimal digits stand for any byte. The answer of each is printed, and a line
-//! `--`. What must be printed stands in the file `stdout` beside this folder.
+//! Worked rows of the crates that need no model of a service: each line of standard input is a row. The answer of
+//! each is printed, and a line `--`. What must be printed stands in the file `stdout` beside this folder.
 #![tactic(auto)]
 
 mod call;
 mod documents;
 mod expressions;
 mod formats;
-mod lines;
-mod models;
 mod queries;
 mod settings;
 mod signing;
-mod values;
 
 use std::io;
 

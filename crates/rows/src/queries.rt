@@ -1,9 +1,8 @@
 //! Queries of documents.
-use crate::documents::told;
-use crate::expressions::text_of;
 use jmes_eval::{search, set};
 use jmes_syntax::parse;
 use json_doc::{OutOfMemory, Text, compact, read};
+use row_words::{text_of, told};
 use std::alloc::Global;
 
 /// The value of a query for a document, or the fault that is met first.

@@ -22,11 +22,10 @@
 //! | `[default]/ [profile dev]` | a profile `dev` | faulty at line 2 |
 //! | `[profile 'a b']`, `[profile  c]` with two spaces | profiles `a b` and `c` | ignored |
 //! | `a` and a value between no-break spaces | stripped | kept, as they are no blanks |
-use crate::documents::told;
-use crate::expressions::text_of;
 use aws_world::Env;
 use config_file::{ConfigFault, Profiles, Section, Settings, config_path, credentials_path};
 use json_doc::{List, OutOfMemory, Text};
+use row_words::{text_of, told};
 use std::alloc::Global;
 
 /// The sections of both files, a line each, or the first faulty line.

@@ -7,10 +7,9 @@
 //! `botocore.auth.get_current_datetime` at the moment of the row). Where a header comes again or
 //! `Authorization` is there before, which botocore can't be given, the canonical request was written by
 //! hand and hashed by Python's `hmac` and `hashlib`.
-use crate::documents::told;
-use crate::expressions::text_of;
 use aws_world::Message;
 use json_doc::{Bytes, Doc, List, OutOfMemory, Text, read};
+use row_words::{text_of, told};
 use sigv4::{Signer, hmac, sign};
 use std::alloc::Global;
 

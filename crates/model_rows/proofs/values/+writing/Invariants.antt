@@ -1,7 +1,7 @@
 use Rattle.std.proofs.Common.{◌+◌, ◌*◌}
 use denote.Param.Weighed.{most}
 use Rattle.typed_value.specs.declared.typed.Typed.{size-Typed}
-use Rattle.rows.proofs.values.+writing.Given as goal
+use Rattle.model_rows.proofs.values.+writing.Given as goal
 
 abbrev pub decreases-written : goal.decreases-written
 decreases-written l = 2 * goal.size-written l

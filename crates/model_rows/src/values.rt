@@ -3,8 +3,8 @@
 //! `{"$blob": TEXT}`, `{"$moment": NUMBER}` and `{"$any": DOCUMENT}` stand for what JSON lacks.
 ghost use Rattle.std.specs.Prelude.{◌<◌, length, IfSome};
 
-use crate::documents::told;
 use json_doc::{Decimal, Doc, List, OutOfMemory, Pair, Pairs, Text, compact, copy, read};
+use row_words::told;
 use service_model::{Model, ShapeId};
 use std::alloc::Global;
 use typed_value::{

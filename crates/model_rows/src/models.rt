@@ -1,8 +1,7 @@
 //! Model files, what they say of operations, and rows of paginators and waiters.
-use crate::documents::told;
-use crate::expressions::text_of;
 use json_doc::{Doc, List, OutOfMemory, Text, read};
 use model_files::{ModelFault, Paginators, Waiters, command_name};
+use row_words::{text_of, told};
 use service_model::{Member, Model, Refusal, Shape, ShapeId};
 use std::alloc::Global;
 

@@ -1,8 +1,7 @@
 //! Command lines: as commands, and beside the table of an operation.
-use crate::documents::told;
-use crate::expressions::text_of;
 use arg_table::{ArgTable, CommandHead, Group, Line, UsageFault, arg_name, head};
 use json_doc::{List, OutOfMemory, Text, read};
+use row_words::{text_of, told};
 use service_model::{Model, PagerRow};
 use std::alloc::Global;
 
