@@ -125,11 +125,23 @@ fn row_of(alloc: Global, words: &[Vec<u8>]) -> Result<Option<Row>, OutOfMemory> 
     Ok(Some(Row { model, reply }))
 }
 
+/// Whether one of these shapes is called `Top`.
+fn has_top(alloc: Global, shapes: &[u8]) -> bool {
+    let Ok(doc) = read(alloc, shapes) else {
+        return false;
+    };
+    match &doc {
+        Doc::Fields(fields) => fields.get("Top").is_some(),
+        _ => false,
+    }
+}
+
 /// The model whose one operation gives the shape `Top`.
 fn model_of(alloc: Global, protocol: &[u8], shapes: &[u8]) -> Result<Option<Model>, OutOfMemory> {
-    let output = match read(alloc, shapes) {
-        Ok(Doc::Fields(fields)) if fields.get("Top").is_some() => r#","output":{"shape":"Top"}"#,
-        _ => "",
+    let output = if has_top(alloc, shapes) {
+        r#","output":{"shape":"Top"}"#
+    } else {
+        ""
     };
     let mut file = Vec::from_slice(alloc, br#"{"metadata":{"protocol":""#)?;
     file.extend_from_slice(protocol)?;
