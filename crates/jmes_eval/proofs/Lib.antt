@@ -3,7 +3,6 @@ pub mod EachSo
 pub mod FirstInOrder
 pub mod Joins
 pub mod KeyOrder
-pub mod KeyPlaces
 pub mod KeysSoFar
 pub mod ManyValues
 pub mod Mapped

@@ -11,7 +11,7 @@ use Rattle.std.proofs.Math.Nat.{lt_of_not-le}
 use Rattle.std.proofs.lemmas.Str.Parse.{IsNumeralModel, numerals_by_value}
 use Rattle.rule_terms.specs.Attributes.{index_of}
 use Rattle.rule_terms.specs.Characters.{is_made_of}
-use Rattle.rule_terms.proofs.MarkedTexts.{encodes_cons}
+use Rattle.texts.proofs.MarkedTexts.{encodes_cons}
 
 -- the texts of digits are those that `parse` reads
 pub numerals : IsNumeralModel (λ ds. list_all is_ascii_digit ds ≡ true) (digits_value 10)

@@ -8,8 +8,8 @@ use Rattle.json_doc.specs.declared.doc.Doc.TheOpen.{Doc-F}
 use Rattle.json_doc.specs.declared.doc.Doc.TheViews.{out-Doc}
 use Rattle.texts.specs.Keys.{value_at}
 use Rattle.rule_terms.specs.Characters.{is_empty, is_made_of}
-use Rattle.rule_terms.specs.Cut.{cut, is_among}
-use Rattle.rule_terms.specs.Marks.{around_first, without_last}
+use Rattle.texts.specs.Cut.{cut, is_among}
+use Rattle.texts.specs.Marks.{around_first, without_last}
 
 abbrev pub member_in : List ℕ → Doc-F Doc → Option Doc
 member_in key (Doc-F.Fields ps) = value_at key ps

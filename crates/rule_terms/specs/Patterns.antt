@@ -6,8 +6,8 @@ use Rattle.std.specs.List.{list_any, list_all}
 use Rattle.rule_terms.specs.declared.pattern.Part.{Part}
 use Rattle.rule_terms.specs.declared.pattern.Part.TheVariants.{Words, Letters, Digits}
 use Rattle.rule_terms.specs.Characters.{is_made_of, is_small, is_letter}
-use Rattle.rule_terms.specs.Cut.{cut, is_among}
-use Rattle.rule_terms.specs.Marks.{without_first, without_last}
+use Rattle.texts.specs.Cut.{cut, is_among}
+use Rattle.texts.specs.Marks.{without_first, without_last}
 
 -- what stands between `^` and `$`
 abbrev pub inside_anchors : List ℕ → Option (List ℕ)

@@ -6,7 +6,7 @@ use Rattle.rule_terms.specs.declared.template.Piece.{Piece}
 use Rattle.rule_terms.specs.declared.template.Piece.TheVariants.{Char, Named}
 use Rattle.rule_terms.specs.declared.template.Stand.{Stand}
 use Rattle.rule_terms.specs.declared.template.Stand.TheVariants.{Plain, Opened, Closed}
-use Rattle.rule_terms.specs.Marks.{around_first}
+use Rattle.texts.specs.Marks.{around_first}
 
 abbrev pub is_brace : ℕ → Bool
 is_brace c = nat_eq c 123 || nat_eq c 125

@@ -6,11 +6,9 @@ ghost use Rattle.texts.specs.Calls.{Finds};
 ghost use Rattle.rule_terms.specs.Attributes.{attribute_of, step_of, holder_of, member_of, item_of, indexed, index_of};
 
 use crate::characters::{are_digits, is_empty};
-use crate::cuts::cut;
-use crate::marks::{around_first, without_last};
 use json_doc::Doc;
 use std::alloc::Global;
-use texts::OutOfMemory;
+use texts::{OutOfMemory, around_first, cut, without_last};
 
 /// What stands at a path in a value: names joined by dots, each perhaps with an index in brackets
 /// behind it; the first may be an index alone.

@@ -7,10 +7,8 @@ ghost use Rattle.texts.specs.Calls.{Finds};
 ghost use Rattle.rule_terms.specs.Patterns.{pattern_of, inside_anchors, parts_of, before_hyphen, part_of, inside_parentheses, words_of, are_words, is_word, fits, all_fit, part_fits};
 
 use crate::characters::{are_digits, are_letters, are_small};
-use crate::cuts::cut;
-use crate::marks::{without_first, without_last};
 use std::alloc::Global;
-use texts::{List, OutOfMemory, Text};
+use texts::{List, OutOfMemory, Text, cut, without_first, without_last};
 
 /// What one part of a region's name is to be.
 #[derive(Debug, Drop)]

@@ -3,9 +3,8 @@ ghost use Rattle.std.specs.Prelude.{◌≡◌, ◌++◌, ◌∷◌, [], IfOk, On
 ghost use Rattle.std.specs.Str.{chars, NonePass};
 ghost use Rattle.rule_terms.specs.Templates.{pieces_of, name_in, path_in, left_open, is_brace, held, IsStand, GoesOn};
 
-use crate::marks::around_first;
 use std::alloc::Global;
-use texts::{List, OutOfMemory, Text};
+use texts::{List, OutOfMemory, Text, around_first};
 
 /// A part of a template.
 #[derive(Debug, Drop)]

@@ -13,7 +13,8 @@ use Rattle.json_doc.specs.declared.doc.Doc.TheFolds.{every_here-Doc, every_held-
 use Rattle.json_doc.specs.Documents.{IsProper, IsProperValue}
 use Rattle.texts.specs.declared.pairs.Pair.{Pair}
 use Rattle.texts.specs.Calls.{◌>>=◌}
-use Rattle.texts.specs.Keys.{value_at, keys, IsNew, IsDistinct}
+use Rattle.texts.specs.Keys.{value_at, keys, IsDistinct}
+use Rattle.texts.proofs.KeyPlaces.{value_at-place}
 use Rattle.model_files.specs.declared.fault.ModelFault.{ModelFault}
 use Rattle.model_files.specs.declared.fault.ModelFault.TheVariants.{WrongKind}
 use Rattle.model_files.specs.declared.fault.Place.TheVariants.{At}
@@ -81,23 +82,6 @@ proper_value key (p ∷ ps) d all found = by (bytes_eq p.key key) refl (λ later
     by : (same : Bool) → bytes_eq p.key key ≡ same → (value_at key ps ≡ Some d → IsProper d) → IsProper d
     by true is others = subst IsProper (same_some p.value d (sym (cond-true (bytes_eq p.key key) (Some p.value) (value_at key ps) is) ∙ found)) all.0
     by false is others = others (sym (cond-false (bytes_eq p.key key) (Some p.value) (value_at key ps) is) ∙ found)
-
-new_at : (key : List ℕ) (ps : Fields) (i : ℕ) (p : Pair Doc) → IsNew key (keys ps) → slice_get ps i ≡ Some p → key ≡ p.key → ⊥
-new_at key [] i p new at same = absurd (cc)
-new_at key (q ∷ ps) zero p new at same = new.0 (same ∙ ap (λ x. x.key) (sym (same_some q p at)))
-new_at key (q ∷ ps) (suc i) p new at same = new_at key ps i p new.1 at same
-
--- a pair's value stands at its key, where no key stands twice
-value_here : (ps : Fields) (i : ℕ) (p : Pair Doc) → IsDistinct (keys ps) → slice_get ps i ≡ Some p → value_at p.key ps ≡ Some p.value
-value_here [] i p distinct at = absurd (cc)
-value_here (q ∷ ps) zero p distinct at =
-    let same : q ≡ p = same_some q p at in
-    cond-true (bytes_eq q.key p.key) (Some q.value) (value_at p.key ps) ((bytes_eq-Decides q.key p.key).1 (ap (λ x. x.key) same)) ∙ ap (λ x. Some x.value) same
-value_here (q ∷ ps) (suc i) p distinct at = by (bytes_eq q.key p.key) refl (value_here ps i p distinct.1 at)
-  where
-    by : (same : Bool) → bytes_eq q.key p.key ≡ same → value_at p.key ps ≡ Some p.value → value_at p.key (q ∷ ps) ≡ Some p.value
-    by true is later = absurd (new_at q.key ps i p distinct.0 at ((bytes_eq-Decides q.key p.key).0 is))
-    by false is later = cond-false (bytes_eq q.key p.key) (Some q.value) (value_at p.key ps) is ∙ later
 
 -- an element of a list stands at a place
 at_place : {A : Type 0} (xs : List A) (x : A) → Contains xs x → (i : ℕ) × (i < length xs) × (slice_get xs i ≡ Some x)
@@ -207,11 +191,11 @@ one_named doc fields pairs shapes shape member proper there at read in_table in_
     let table_proper : IsProper table.0 = proper_value (codes "shapes") fields table.0 (proper_values doc fields doc_is proper) table.1 in
     let table_is = fields_ok table.0 pairs table.2 in
     let shape_found : value_at shape.name pairs ≡ Some p.0.value =
-    ap (λ k. value_at k pairs) r.name ∙ value_here pairs s.0 p.0 (proper_keys table.0 pairs table_is table_proper) p.1 in
+    ap (λ k. value_at k pairs) r.name ∙ value_at-place pairs s.0 p.0 (proper_keys table.0 pairs table_is table_proper) p.1 in
     let shape_proper : IsProper p.0.value = proper_value shape.name pairs p.0.value (proper_values table.0 pairs table_is table_proper) shape_found in
     let members_proper : IsProper members.0 = proper_value (codes "members") r.fields members.0 (proper_values p.0.value r.fields (fields_ok p.0.value r.fields r.there) shape_proper) members.1 in
     let member_found : value_at member.name structure.pairs ≡ Some q.0.value =
-    ap (λ k. value_at k structure.pairs) mr.name ∙ value_here structure.pairs m.0 q.0 (proper_keys members.0 structure.pairs (fields_ok members.0 structure.pairs members.2) members_proper) q.1 in
+    ap (λ k. value_at k structure.pairs) mr.name ∙ value_at-place structure.pairs m.0 q.0 (proper_keys members.0 structure.pairs (fields_ok members.0 structure.pairs members.2) members_proper) q.1 in
     ap (option_and_then (text_along (shape.name ∷ codes "members" ∷ member.name ∷ codes "shape" ∷ []))) (value_read (codes "shapes") doc fields there ∙ table.1)
     ∙ ap (option_and_then (text_along (codes "members" ∷ member.name ∷ codes "shape" ∷ []))) (value_read shape.name table.0 pairs table.2 ∙ shape_found)
     ∙ ap (option_and_then (text_along (member.name ∷ codes "shape" ∷ []))) (value_read (codes "members") p.0.value r.fields r.there ∙ members.1)

@@ -1,6 +1,9 @@
 pub mod Ascending
 pub mod BlankEnds
 pub mod ByteOrder
+pub mod CutTexts
+pub mod KeyPlaces
 pub mod Keyed
 pub mod KeyedFronts
+pub mod MarkedTexts
 pub mod Texts

@@ -2,7 +2,9 @@ pub mod Ascii
 pub mod Blanks
 pub mod Calls
 pub mod Characters
+pub mod Cut
 pub mod Joined
 pub mod Keys
+pub mod Marks
 pub mod Order
 pub mod formers

@@ -4,7 +4,9 @@
 
 mod blanks;
 mod bytes;
+mod cuts;
 mod list;
+mod marks;
 mod memory;
 mod order;
 mod pairs;
@@ -12,7 +14,9 @@ mod text;
 
 pub use blanks::trimmed;
 pub use bytes::Bytes;
+pub use cuts::{cut, cut_times};
 pub use list::List;
+pub use marks::{around_first, without_first, without_last};
 pub use memory::OutOfMemory;
 pub use order::{compare, order_is_that_of_bytes, put_in_order};
 pub use pairs::{Pair, Pairs};

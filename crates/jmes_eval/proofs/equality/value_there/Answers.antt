@@ -3,7 +3,7 @@ use Rattle.std.specs.List.{slice_get}
 use Rattle.std.proofs.lemmas.Option.{slice_get_read}
 use Rattle.std.proofs.lemmas.Slice.Eq.{bytes_eq-Decides}
 use Rattle.texts.specs.Keys.{value_at}
-use Rattle.jmes_eval.proofs.KeyPlaces.{value_at-place}
+use Rattle.texts.proofs.KeyPlaces.{value_at-place}
 use Rattle.jmes_eval.proofs.equality.value_there.Goals as goal
 
 pub returns-then-eq : goal.returns-then-eq

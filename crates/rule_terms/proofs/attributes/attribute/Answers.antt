@@ -1,7 +1,7 @@
 use Rattle.std.proofs.Common.{sym, ap, ◌∙◌, nat_eq, Some}
 use Rattle.std.specs.Str.{chars}
 use Rattle.rule_terms.specs.Attributes.{along, step_of, attribute_of}
-use Rattle.rule_terms.specs.Cut.{cut, is_among}
+use Rattle.texts.specs.Cut.{cut, is_among}
 use Rattle.rule_terms.proofs.Paths.{found_none, found_some, found_all}
 use Rattle.rule_terms.proofs.attributes.attribute.Goals as goal
 

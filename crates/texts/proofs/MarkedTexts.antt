@@ -12,7 +12,7 @@ use Rattle.std.proofs.Math.Seq.{take-append_seam, drop-append_seam, get_or-appen
 use Rattle.std.specs.Str.{IsCharBoundary}
 use denote.Ref.{Bor}
 use Rattle.texts.specs.Calls.{Finds}
-use Rattle.rule_terms.specs.Marks.{around_first, without_first, without_last}
+use Rattle.texts.specs.Marks.{around_first, without_first, without_last}
 
 -- bytes that begin with a character in ASCII
 pub chars_cons : (c : ℕ) (bs rest : List ℕ) → IsUtf8 bs → c < 128 → bs ≡ c ∷ rest → chars bs ≡ c ∷ chars rest

@@ -2,8 +2,8 @@ use Rattle.std.proofs.Common.{◌≡◌, ◌++◌}
 use denote.Shadow.{shadow}
 use denote.Text.{Utf8}
 use Rattle.std.specs.Str.{chars}
-use Rattle.rule_terms.specs.Cut.{cut_times}
-use Rattle.rule_terms.proofs.cuts.cut_times.Given as goal
+use Rattle.texts.specs.Cut.{cut_times}
+use Rattle.texts.proofs.cuts.cut_times.Given as goal
 
 -- the parts so far, and those of what is left
 abbrev pub invariant-loop-left : goal.invariant-loop-left

@@ -2,7 +2,7 @@
 ghost use Rattle.std.specs.Prelude.{◌<◌};
 ghost use Rattle.std.specs.Str.{chars};
 ghost use Rattle.texts.specs.Calls.{Finds};
-ghost use Rattle.rule_terms.specs.Marks.{around_first, without_first, without_last};
+ghost use Rattle.texts.specs.Marks.{around_first, without_first, without_last};
 
 /// What stands before and behind the first of these marks.
 pub fn around_first(text: &str, mark: char) -> Option<(&str, &str)>

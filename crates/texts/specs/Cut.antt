@@ -1,7 +1,7 @@
 -- Texts cut into their parts.
 use Rattle.std.specs.Prelude.{ℕ, zero, suc, Bool, nat_eq, List, [], ◌∷◌, None, Some}
 use Rattle.std.specs.List.{list_any, slice_split}
-use Rattle.rule_terms.specs.Marks.{around_first}
+use Rattle.texts.specs.Marks.{around_first}
 
 abbrev pub is_among : List ℕ → ℕ → Bool
 is_among marks c = list_any (λ mark. nat_eq mark c) marks

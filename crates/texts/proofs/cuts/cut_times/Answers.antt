@@ -1,8 +1,8 @@
 use Rattle.std.proofs.Common.{rules, ◌++◌, ◌∷◌, [], ◌-◌, ap, ◌∙◌}
 use Rattle.std.specs.Str.{chars}
-use Rattle.rule_terms.specs.Cut.{cut_times}
-use Rattle.rule_terms.proofs.CutTexts.{one_cut}
-use Rattle.rule_terms.proofs.cuts.cut_times.Goals as goal
+use Rattle.texts.specs.Cut.{cut_times}
+use Rattle.texts.proofs.CutTexts.{one_cut}
+use Rattle.texts.proofs.cuts.cut_times.Goals as goal
 
 pub loop-left-preserved : goal.loop-left-preserved
 loop-left-preserved c = (

@@ -1,8 +1,8 @@
 -- A text cut at marks, one character after another.
 use Rattle.std.proofs.Common.{◌≡◌, ◌<◌, ◌-◌, ℕ, zero, suc, arith, Option, Some, None, Bool, true, false, cond, List, [], ◌∷◌, ◌++◌, refl, sym, ap, ◌∙◌, append_assoc, append-nil}
 use Rattle.std.specs.List.{slice_split, onto_first}
-use Rattle.rule_terms.specs.Cut.{cut_times}
-use Rattle.rule_terms.specs.Marks.{around_first}
+use Rattle.texts.specs.Cut.{cut_times}
+use Rattle.texts.specs.Marks.{around_first}
 use Rattle.std.proofs.lemmas.Bool.{cond-true, cond-false}
 
 -- these characters in front of the first part

@@ -4,9 +4,9 @@ use Rattle.std.proofs.StrCases.{chars_of_empty}
 use Rattle.std.specs.List.{slice_split}
 use Rattle.std.specs.Str.{chars, IsUtf8}
 use Rattle.std.specs.Str.Iter.{chars_rest}
-use Rattle.rule_terms.specs.Cut.{is_among}
-use Rattle.rule_terms.proofs.CutTexts.{with_start, starts, at_mark, at_other}
-use Rattle.rule_terms.proofs.cuts.cut.Goals as goal
+use Rattle.texts.specs.Cut.{is_among}
+use Rattle.texts.proofs.CutTexts.{with_start, starts, at_mark, at_other}
+use Rattle.texts.proofs.cuts.cut.Goals as goal
 
 pub loop-c-init : goal.loop-c-init
 loop-c-init c =

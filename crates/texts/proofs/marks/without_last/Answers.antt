@@ -1,6 +1,6 @@
 use Rattle.std.proofs.lemmas.Str.Pattern.{strip_suffix_char}
-use Rattle.rule_terms.proofs.MarkedTexts.{finds_last}
-use Rattle.rule_terms.proofs.marks.without_last.Goals as goal
+use Rattle.texts.proofs.MarkedTexts.{finds_last}
+use Rattle.texts.proofs.marks.without_last.Goals as goal
 
 pub returns : goal.returns
 returns c = finds_last c.args.mark c.args.text.now c.strip_suffix.result c.utf8.text c.requires

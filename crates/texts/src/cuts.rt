@@ -1,11 +1,11 @@
 //! Texts cut into their parts.
 ghost use Rattle.std.specs.Prelude.{◌≡◌, ◌<◌, IfOk};
 ghost use Rattle.std.specs.Str.{chars};
-ghost use Rattle.rule_terms.specs.Cut.{cut, cut_times, is_among};
+ghost use Rattle.texts.specs.Cut.{cut, cut_times, is_among};
 
 use crate::marks::around_first;
+use crate::{List, OutOfMemory, Text};
 use std::alloc::Global;
-use texts::{List, OutOfMemory, Text};
 
 /// The parts of a text between the marks.
 pub fn cut(alloc: Global, text: &str, marks: &[char]) -> Result<List<Text>, OutOfMemory>

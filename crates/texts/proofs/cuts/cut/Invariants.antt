@@ -2,9 +2,9 @@ use Rattle.std.proofs.Common.{◌≡◌, ◌++◌}
 use Rattle.std.specs.List.{slice_split}
 use Rattle.std.specs.Str.{chars, IsUtf8}
 use Rattle.std.specs.Str.Iter.{chars_rest}
-use Rattle.rule_terms.specs.Cut.{cut, is_among}
-use Rattle.rule_terms.proofs.CutTexts.{with_start}
-use Rattle.rule_terms.proofs.cuts.cut.Given as goal
+use Rattle.texts.specs.Cut.{cut, is_among}
+use Rattle.texts.proofs.CutTexts.{with_start}
+use Rattle.texts.proofs.cuts.cut.Given as goal
 
 -- the parts so far, and those of what is left, of which the first has begun
 abbrev pub invariant-loop-c : goal.invariant-loop-c
