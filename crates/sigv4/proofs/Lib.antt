@@ -1,11 +1,9 @@
 pub mod Appends
 pub mod Epoch
-pub mod Escapes
 pub mod HeaderSteps
 pub mod Listed
 pub mod Marks
 pub mod OneForms
-pub mod PathParts
 pub mod PlainDigits
 pub mod SortedPairs
 pub mod SortedSame

@@ -1,11 +1,9 @@
 -- The canonical path: AWS's "Create a signed AWS API request", CanonicalUri.
-use Rattle.std.specs.Prelude.{ℕ, ◌-◌, ◌/◌, ◌%◌, ◌==◌, ◌&&◌, ◌||◌, nat_le, nat_eq, Bool, if◌then◌else◌, List, [], ◌∷◌, ◌++◌, length, take, flat_map, slice_index, codes, bytes_eq, encode_utf8_all}
+use Rattle.std.specs.Prelude.{ℕ, ◌-◌, ◌||◌, nat_eq, if◌then◌else◌, List, [], ◌∷◌, ◌++◌, length, take, flat_map, codes, bytes_eq, encode_utf8_all}
 use Rattle.std.specs.List.{ends_with}
-
--- the parts between slashes, where the first goes on from a start
-abbrev pub parts_from : List ℕ → List ℕ → List (List ℕ)
-parts_from start [] = start ∷ []
-parts_from start (c ∷ cs) = if c == 47 then start ∷ parts_from [] cs else parts_from (start ++ c ∷ []) cs
+use Rattle.texts.specs.Cut.{cut, is_among}
+use Rattle.uri_texts.specs.declared.escapes.Slashes.TheVariants.{Kept}
+use Rattle.uri_texts.specs.Escapes.{escaped}
 
 -- the segments with one more: an empty one and `.` are dropped, `..` takes the one before it away
 -- (RFC 3986, section 5.2.4)
@@ -22,7 +20,7 @@ with_segments kept (part ∷ parts) = with_segments (with_segment kept part) par
 
 -- the segments of a path that are left
 abbrev pub segments_of : List ℕ → List (List ℕ)
-segments_of path = with_segments [] (parts_from [] path)
+segments_of path = with_segments [] (cut (is_among (47 ∷ [])) path)
 
 -- a slash at the end, where the path has one
 abbrev pub final_slash : List ℕ → List ℕ
@@ -37,18 +35,6 @@ rooted (segment ∷ segments) end = flat_map (λ s. 47 ∷ s) (segment ∷ segme
 abbrev pub normal_path : List ℕ → List ℕ
 normal_path path = rooted (segments_of path) (final_slash path)
 
--- the unreserved characters (RFC 3986, section 2.3): letters, digits, `-`, `.`, `_` and `~`
-abbrev pub is_unreserved : ℕ → Bool
-is_unreserved b =
-    (nat_le 65 b && nat_le b 90) || (nat_le 97 b && nat_le b 122) || (nat_le 48 b && nat_le b 57)
-    || (b == 45) || (b == 46) || (b == 95) || (b == 126)
-
--- a byte of a path as it stands in a canonical one: an escape has `%` and two upper-case hex digits
-abbrev pub escaped_byte : ℕ → List ℕ
-escaped_byte b =
-    if is_unreserved b || (b == 47) then b ∷ []
-    else 37 ∷ slice_index (codes "0123456789ABCDEF") (b / 16) ∷ slice_index (codes "0123456789ABCDEF") (b % 16) ∷ []
-
 -- the canonical path of a path that is already escaped: each byte is escaped once more
 abbrev pub canonical_path : List ℕ → List ℕ
-canonical_path path = flat_map escaped_byte (encode_utf8_all (normal_path path))
+canonical_path path = escaped Kept (normal_path path)

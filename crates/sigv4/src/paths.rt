@@ -1,21 +1,11 @@
-ghost use Rattle.std.specs.Prelude.{◌≡◌, ◌++◌, flat_map, IsTrue, IfOk, OnOk};
+ghost use Rattle.std.specs.Prelude.{◌≡◌, ◌++◌, IsTrue, IfOk, OnOk};
 ghost use Rattle.texts.specs.Ascii.{is_ascii_text};
 ghost use Rattle.std.specs.Str.{chars};
-ghost use Rattle.sigv4.specs.Path.{with_segment, segments_of, rooted, final_slash, normal_path, escaped_byte, canonical_path};
+ghost use Rattle.sigv4.specs.Path.{with_segment, segments_of, rooted, final_slash, normal_path, canonical_path};
 
-use percent_encoding::{AsciiSet, NON_ALPHANUMERIC, ascii_set, percent_encode};
 use std::alloc::Global;
-use texts::{OutOfMemory, Text};
-
-/// All but the unreserved characters (RFC 3986, section 2.3) and `/`.
-const ESCAPED: AsciiSet = ascii_set!(
-    NON_ALPHANUMERIC
-        .remove(b'-')
-        .remove(b'.')
-        .remove(b'_')
-        .remove(b'~')
-        .remove(b'/')
-);
+use texts::{OutOfMemory, Text, cut};
+use uri_texts::{Slashes, push_escaped};
 
 /// Puts the canonical form of a path that is already escaped ("Create a signed AWS API request",
 /// CanonicalUri): without empty and dot segments, each byte escaped once more.
@@ -23,16 +13,7 @@ pub fn push_path(alloc: Global, out: &mut Text, path: &Text) -> Result<(), OutOf
     ensures { OnOk result (out.new ≡ out.old ++ canonical_path path.now) }
 {
     let normal = normal_path(alloc, path)?;
-    push_escaped(alloc, out, normal.as_str().as_bytes())
-}
-
-/// Puts bytes, each as it is or as an escape.
-fn push_escaped(alloc: Global, out: &mut Text, bytes: &[u8]) -> Result<(), OutOfMemory>
-    ensures { OnOk result (out.new ≡ out.old ++ flat_map escaped_byte bytes.now) }
-{
-    let mut escaped = String::new(alloc);
-    percent_encode(bytes, ESCAPED).append_to(&mut escaped)?;
-    out.push_str(escaped.as_str())
+    push_escaped(alloc, out, normal.as_str(), Slashes::Kept)
 }
 
 /// The path without empty and dot segments.
@@ -78,16 +59,9 @@ fn segments_of(alloc: Global, path: &str) -> Result<Vec<Text>, OutOfMemory>
     ensures { IfOk result (λ segments. segments.items ≡ segments_of (chars path.now)) }
 {
     let mut segments = Vec::new(alloc);
-    let mut part = Text::new(alloc);
-    for c in path.chars() {
-        if c == '/' {
-            put_segment(&mut segments, part)?;
-            part = Text::new(alloc);
-        } else {
-            part.push(c)?;
-        }
+    for part in cut(alloc, path, &['/'])?.into_vec() {
+        put_segment(&mut segments, part)?;
     }
-    put_segment(&mut segments, part)?;
     Ok(segments)
 }
 

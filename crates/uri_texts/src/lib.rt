@@ -1,0 +1,11 @@
+//! The texts of request URIs: percent-escapes, templates with labels in braces, and the constants of a
+//! query.
+#![tactic(auto)]
+
+mod escapes;
+mod query;
+mod templates;
+
+pub use escapes::{Slashes, push_escaped};
+pub use query::constants;
+pub use templates::{Piece, pieces};
