@@ -1,4 +1,4 @@
-use crate::{lines, models, replies, values};
+use crate::{lines, models, values};
 use json_doc::{OutOfMemory, Text};
 use row_words::{unknown, words};
 use std::alloc::Global;
@@ -17,15 +17,6 @@ pub fn answer(alloc: Global, line: &str) -> Result<Text, OutOfMemory> {
             first.as_slice(),
             second.as_slice(),
         ),
-        [call, words @ ..] if call.as_slice() == b"reply".as_slice() => {
-            replies::parsed(alloc, words)
-        }
-        [call, words @ ..] if call.as_slice() == b"reply-head".as_slice() => {
-            replies::parsed_head(alloc, words)
-        }
-        [call, words @ ..] if call.as_slice() == b"reply-text".as_slice() => {
-            replies::texts(alloc, words)
-        }
         _ => unknown(alloc),
     }
 }

@@ -5,7 +5,6 @@
 mod call;
 mod lines;
 mod models;
-mod replies;
 mod values;
 
 use std::io;

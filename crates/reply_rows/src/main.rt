@@ -1,0 +1,37 @@
+//! Worked rows of replies: each line of standard input is a row. The answer of each is printed, and a line `--`.
+//! What must be printed stands in the file `stdout` beside this folder.
+#![tactic(auto)]
+
+mod replies;
+
+use json_doc::{OutOfMemory, Text};
+use row_words::{unknown, words};
+use std::alloc::Global;
+use std::io;
+
+fn main(rt: HostRuntime) -> io::Result<()> {
+    let alloc = rt.alloc();
+    for line in rt.lines(alloc) {
+        match answer(alloc, line?.as_str()) {
+            Ok(text) => println!(rt; "{text}\n--")?,
+            Err(_) => println!(rt; "Out of memory\n--")?,
+        }
+    }
+    Ok(())
+}
+
+/// The answer of a line.
+fn answer(alloc: Global, line: &str) -> Result<Text, OutOfMemory> {
+    match words(alloc, line)?.as_slice() {
+        [call, words @ ..] if call.as_slice() == b"reply".as_slice() => {
+            replies::parsed(alloc, words)
+        }
+        [call, words @ ..] if call.as_slice() == b"reply-head".as_slice() => {
+            replies::parsed_head(alloc, words)
+        }
+        [call, words @ ..] if call.as_slice() == b"reply-text".as_slice() => {
+            replies::texts(alloc, words)
+        }
+        _ => unknown(alloc),
+    }
+}
