@@ -1,5 +1,5 @@
 //! Percent-escapes (RFC 3986, section 2.1).
-ghost use Rattle.std.specs.Prelude.{◌≡◌, ◌++◌, flat_map, OnOk};
+ghost use Rattle.std.specs.Prelude.{◌≡◌, ◌++◌, flat_map, IfOk, OnOk};
 ghost use Rattle.std.specs.Str.{chars};
 ghost use Rattle.percent_encoding.specs.Percent.{percent_encode as encoded_by};
 ghost use Rattle.uri_texts.specs.Escapes.{escaped, escaped_byte};
@@ -44,6 +44,15 @@ pub fn push_escaped(
     ensures { OnOk result (out.new ≡ out.old ++ escaped slashes (chars text.now)) }
 {
     push_bytes(alloc, out, text.as_bytes(), slashes)
+}
+
+/// The text with its escapes.
+pub fn escaped(alloc: Global, text: &str, slashes: Slashes) -> Result<Text, OutOfMemory>
+    ensures { IfOk result (λ made. made ≡ escaped slashes (chars text.now)) }
+{
+    let mut made = Text::new(alloc);
+    push_escaped(alloc, &mut made, text, slashes)?;
+    Ok(made)
 }
 
 fn push_bytes(

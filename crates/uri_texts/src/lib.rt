@@ -6,6 +6,6 @@ mod escapes;
 mod query;
 mod templates;
 
-pub use escapes::{Slashes, push_escaped};
+pub use escapes::{Slashes, escaped, push_escaped};
 pub use query::constants;
 pub use templates::{Piece, pieces};

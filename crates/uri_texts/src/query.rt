@@ -1,10 +1,8 @@
 //! The constants of a query in a request's URI.
 ghost use Rattle.std.specs.Prelude.{◌≡◌, IfOk};
-ghost use Rattle.std.specs.Str.{chars};
 ghost use Rattle.uri_texts.specs.Constants.{constants, constant};
-ghost use Rattle.uri_texts.specs.Escapes.{escaped};
 
-use crate::escapes::{Slashes, push_escaped};
+use crate::escapes::{Slashes, escaped};
 use std::alloc::Global;
 use texts::{List, OutOfMemory, Text, around_first, cut};
 
@@ -30,15 +28,13 @@ fn constant(alloc: Global, part: &Text) -> Result<(Text, Text), OutOfMemory>
     ensures { IfOk result (λ made. made ≡ constant part.now) }
 {
     match around_first(part.as_str(), '=') {
-        Some((name, value)) => Ok((escaped(alloc, name)?, escaped(alloc, value)?)),
-        None => Ok((escaped(alloc, part.as_str())?, Text::new(alloc))),
+        Some((name, value)) => Ok((
+            escaped(alloc, name, Slashes::Escaped)?,
+            escaped(alloc, value, Slashes::Escaped)?,
+        )),
+        None => Ok((
+            escaped(alloc, part.as_str(), Slashes::Escaped)?,
+            Text::new(alloc),
+        )),
     }
-}
-
-fn escaped(alloc: Global, text: &str) -> Result<Text, OutOfMemory>
-    ensures { IfOk result (λ made. made ≡ escaped Slashes.Escaped (chars text.now)) }
-{
-    let mut made = Text::new(alloc);
-    push_escaped(alloc, &mut made, text, Slashes::Escaped)?;
-    Ok(made)
 }
