@@ -1,5 +1,3 @@
-pub mod Appends
-pub mod Epoch
 pub mod HeaderSteps
 pub mod Listed
 pub mod Marks

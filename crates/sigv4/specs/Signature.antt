@@ -1,13 +1,12 @@
 -- The signature: AWS's "Create a signed AWS API request", steps 2 to 5.
-use Rattle.std.specs.Prelude.{◌≡◌, ℕ, ℤ, List, [], ◌∷◌, ◌++◌, Option, Some, None, codes, encode_utf8_all}
+use Rattle.std.specs.Prelude.{◌≡◌, ℕ, ℤ, unsigned_abs, List, [], ◌∷◌, ◌++◌, Option, Some, None, codes, encode_utf8_all}
 use Rattle.sha2.specs.Sha256.{sha256}
 use Rattle.hex.specs.Hex.{encode_lower}
-use Rattle.jiff_core.specs.declared.civil.datetime.DateTime.{DateTime}
 use Rattle.aws_world.specs.declared.message.Message.{Message}
 use Rattle.sigv4.specs.declared.signer.Signer.{Signer}
 use Rattle.sigv4.specs.Hmac.{hmac_of}
 use Rattle.sigv4.specs.Line.{line}
-use Rattle.sigv4.specs.Moment.{IsAt, date_text, moment_text}
+use Rattle.time_texts.specs.Texts.{basic_date, basic_text}
 use Rattle.sigv4.specs.Parameters.{IsSortedQuery}
 use Rattle.sigv4.specs.Headers.{canonical_headers, AreSignedNames, signed_headers}
 use Rattle.sigv4.specs.Canonical.{canonical_request}
@@ -21,18 +20,18 @@ with_token m None = m
 with_token m (Some token) = with_header m (codes "X-Amz-Security-Token") token
 
 -- the message with its moment, and with the session's token where there is a session
-abbrev pub stamped : Message → Signer → DateTime → Message
-stamped m signer moment = with_token (with_header m (codes "X-Amz-Date") (moment_text moment)) signer.session
+abbrev pub stamped : Message → Signer → ℕ → Message
+stamped m signer seconds = with_token (with_header m (codes "X-Amz-Date") (basic_text seconds)) signer.session
 
 -- the credential scope: date, region, service and a fixed end
-abbrev pub scope_of : Signer → DateTime → List ℕ
-scope_of signer moment =
-    date_text moment ++ codes "/" ++ signer.region ++ codes "/" ++ signer.service ++ codes "/aws4_request"
+abbrev pub scope_of : Signer → ℕ → List ℕ
+scope_of signer seconds =
+    basic_date seconds ++ codes "/" ++ signer.region ++ codes "/" ++ signer.service ++ codes "/aws4_request"
 
 -- step 3
-abbrev pub string_to_sign : Signer → DateTime → List ℕ → List ℕ
-string_to_sign signer moment request =
-    line (codes "AWS4-HMAC-SHA256") ++ line (moment_text moment) ++ line (scope_of signer moment)
+abbrev pub string_to_sign : Signer → ℕ → List ℕ → List ℕ
+string_to_sign signer seconds request =
+    line (codes "AWS4-HMAC-SHA256") ++ line (basic_text seconds) ++ line (scope_of signer seconds)
     ++ encode_lower (sha256 (encode_utf8_all request))
 
 -- the keyed hash of a text, by its bytes in UTF-8
@@ -40,40 +39,38 @@ abbrev pub keyed : List ℕ → List ℕ → List ℕ
 keyed key text = hmac_of key (encode_utf8_all text)
 
 -- step 4, from the secret over date, region and service
-abbrev pub signing_key : Signer → DateTime → List ℕ
-signing_key signer moment =
-    let dated = keyed (encode_utf8_all (codes "AWS4" ++ signer.secret)) (date_text moment) in
+abbrev pub signing_key : Signer → ℕ → List ℕ
+signing_key signer seconds =
+    let dated = keyed (encode_utf8_all (codes "AWS4" ++ signer.secret)) (basic_date seconds) in
     let regional = keyed dated signer.region in
     let serving = keyed regional signer.service in
     hmac_of serving (codes "aws4_request")
 
 -- the signature of a canonical request
-abbrev pub signature_of : Signer → DateTime → List ℕ → List ℕ
-signature_of signer moment request =
-    encode_lower (keyed (signing_key signer moment) (string_to_sign signer moment request))
+abbrev pub signature_of : Signer → ℕ → List ℕ → List ℕ
+signature_of signer seconds request =
+    encode_lower (keyed (signing_key signer seconds) (string_to_sign signer seconds request))
 
 -- the value of `Authorization`
-abbrev pub authorization_of : Signer → DateTime → List (List ℕ) → List ℕ → List ℕ
-authorization_of signer moment names signature =
-    codes "AWS4-HMAC-SHA256 Credential=" ++ signer.access ++ codes "/" ++ scope_of signer moment
+abbrev pub authorization_of : Signer → ℕ → List (List ℕ) → List ℕ → List ℕ
+authorization_of signer seconds names signature =
+    codes "AWS4-HMAC-SHA256 Credential=" ++ signer.access ++ codes "/" ++ scope_of signer seconds
     ++ codes ", SignedHeaders=" ++ signed_headers names ++ codes ", Signature=" ++ signature
 
 -- a message with its signature in `Authorization`, over a sorted query and names
-abbrev pub authorized : Signer → DateTime → Message → List (List ℕ × List ℕ) → List (List ℕ) → Message
-authorized signer moment m query names =
+abbrev pub authorized : Signer → ℕ → Message → List (List ℕ × List ℕ) → List (List ℕ) → Message
+authorized signer seconds m query names =
     with_header m (codes "Authorization")
-    (authorization_of signer moment names (signature_of signer moment (canonical_request m query names)))
+    (authorization_of signer seconds names (signature_of signer seconds (canonical_request m query names)))
 
--- the message as it is signed at a date and time of day
-pub record IsSignedAt (message : Message) (signer : Signer) (moment : DateTime) (signed : Message) : Type 0 where
+-- the message as it is signed so many seconds after 1970 begins
+pub record IsSignedAt (message : Message) (signer : Signer) (seconds : ℕ) (signed : Message) : Type 0 where
   pub query : List (List ℕ × List ℕ)
   pub names : List (List ℕ)
   pub query_is : IsSortedQuery message.query query
-  pub names_are : AreSignedNames (canonical_headers (stamped message signer moment).headers) names
-  pub signed_is : signed ≡ authorized signer moment (stamped message signer moment) query names
+  pub names_are : AreSignedNames (canonical_headers (stamped message signer seconds).headers) names
+  pub signed_is : signed ≡ authorized signer seconds (stamped message signer seconds) query names
 
--- the message as it is signed so many seconds after 1970 begins
-pub record IsSigned (message : Message) (signer : Signer) (now : ℤ) (signed : Message) : Type 0 where
-  pub moment : DateTime
-  pub moment_is : IsAt now moment
-  pub signed_is : IsSignedAt message signer moment signed
+-- the same, of a number that may be negative elsewhere
+abbrev pub IsSigned : Message → Signer → ℤ → Message → Type 0
+IsSigned message signer now signed = IsSignedAt message signer (unsigned_abs now) signed

@@ -1,20 +1,20 @@
 ghost use Rattle.std.specs.Prelude.{◌≡◌, ◌⊎◌, IsTrue, IfOk, IfErr, Err};
 ghost use Rattle.texts.specs.Ascii.{is_ascii_text};
-ghost use Rattle.sigv4.specs.Moment.{IsMoment, IsAt};
+ghost use Rattle.sigv4.specs.Moment.{IsMoment};
 ghost use Rattle.sigv4.specs.Signature.{IsSigned, IsSignedAt, with_header, with_token, stamped};
 
 use crate::authorization::authorization;
 use crate::canonical::canonical_request;
 use crate::canonical_headers::CanonicalHeaders;
-use crate::moments::{moment_at, push_moment};
+use crate::moments::seconds_of;
 use crate::parameters::sorted_query;
 use crate::pieces::{copy_pairs, push_header};
 use crate::sign_fault::SignFault;
 use crate::signer::Signer;
 use aws_world::Message;
-use jiff::civil::DateTime;
 use std::alloc::Global;
 use texts::{Bytes, OutOfMemory, Text};
+use time_texts::push_basic;
 
 /// The message signed at a moment in seconds since 1970 (AWS Signature Version 4): with `X-Amz-Date`,
 /// `X-Amz-Security-Token` where there is a session, and `Authorization` behind its headers.
@@ -29,27 +29,27 @@ pub fn sign(
     ensures outside { ¬ IsMoment now → result ≡ Err (SignFault.BadClock now) }
     ensures refused { IfErr result (λ fault. (fault ≡ SignFault.OutOfMemory) ⊎ ((fault ≡ SignFault.BadClock now) × ¬ IsMoment now)) }
 {
-    let Some(moment) = moment_at(now) else {
+    let Some(seconds) = seconds_of(now) else {
         return Err(SignFault::BadClock(now));
     };
-    let signed = signed_at(alloc, message, signer, moment)?;
+    let signed = signed_at(alloc, message, signer, seconds)?;
     Ok(signed)
 }
 
-/// The message signed at a date and time of day.
+/// The message signed so many seconds after 1970 begins.
 fn signed_at(
     alloc: Global,
     message: &Message,
     signer: &Signer,
-    moment: DateTime,
+    seconds: u64,
 ) -> Result<Message, OutOfMemory>
-    ensures { IfOk result (IsSignedAt message.now signer.now moment) }
+    ensures { IfOk result (IsSignedAt message.now signer.now seconds) }
 {
-    let made = stamped(alloc, message, signer, moment)?;
+    let made = stamped(alloc, message, signer, seconds)?;
     let query = sorted_query(alloc, message.query.as_slice())?;
     let headers = CanonicalHeaders::of(alloc, made.headers.as_slice())?;
     let request = canonical_request(alloc, &made, query.as_slice(), &headers)?;
-    let value = authorization(alloc, signer, moment, headers.names.as_slice(), &request)?;
+    let value = authorization(alloc, signer, seconds, headers.names.as_slice(), &request)?;
     Ok(with_header(alloc, made, "Authorization", value)?)
 }
 
@@ -58,12 +58,12 @@ fn stamped(
     alloc: Global,
     message: &Message,
     signer: &Signer,
-    moment: DateTime,
+    seconds: u64,
 ) -> Result<Message, OutOfMemory>
-    ensures { IfOk result (λ made. made ≡ stamped message.now signer.now moment) }
+    ensures { IfOk result (λ made. made ≡ stamped message.now signer.now seconds) }
 {
     let mut date = Text::new(alloc);
-    push_moment(&mut date, moment)?;
+    push_basic(&mut date, seconds)?;
     let dated = with_header(alloc, copy(alloc, message)?, "X-Amz-Date", date)?;
     with_token(alloc, dated, &signer.session)
 }

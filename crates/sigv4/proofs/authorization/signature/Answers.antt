@@ -11,4 +11,4 @@ returns c =
     let text = c.as_bytes.ensures.value ∙ c.as_str.ensures.bytes ∙ ap encode_utf8_all c.in_ok-text.ensures in
     ap encode_lower
     (c.keyed_hash.ensures ∙ ap (λ k. hmac_of k c.as_bytes.result.now) key
-    ∙ ap (hmac_of (signing_key c.args.signer.now c.args.moment)) text)
+    ∙ ap (hmac_of (signing_key c.args.signer.now c.args.seconds)) text)

@@ -1,6 +1,6 @@
 use Rattle.std.proofs.Common.{◌≡◌, ◌++◌, refl}
 use Rattle.std.specs.Prelude.{codes, encode_utf8_all}
-use Rattle.sigv4.specs.Moment.{date_text}
+use Rattle.time_texts.specs.Texts.{basic_date}
 use Rattle.sigv4.specs.Signature.{keyed}
 use Rattle.sigv4.proofs.authorization.signing_key.Goals as goal
 
@@ -8,11 +8,11 @@ pub returns : goal.returns
 returns c =
     let signer = c.args.signer.now in
     let secret = codes "AWS4" ++ signer.secret in
-    let date = date_text c.args.moment in
+    let date = basic_date c.args.seconds in
     let key_bytes : c.as_bytes.result.now ≡ encode_utf8_all secret =
     rw (c.as_bytes.ensures.value, c.as_str-2.ensures.bytes, c.in_ok-push_str.ensures.ok, c.in_ok-push_ascii.ensures.ok, c.new-secret.ensures, c.as_str.ensures.value) refl in
     let date_bytes : c.as_bytes-2.result.now ≡ encode_utf8_all date =
-    rw (c.as_bytes-2.ensures.value, c.as_str-3.ensures.bytes, c.in_ok-push_date.ensures, c.new-date.ensures) refl in
+    rw (c.as_bytes-2.ensures.value, c.as_str-3.ensures.bytes, c.in_ok-push_basic_date.ensures, c.new-date.ensures) refl in
     let dated : c.keyed_hash-dated.result ≡ keyed (encode_utf8_all secret) date = rw (c.keyed_hash-dated.ensures, key_bytes, date_bytes) refl in
     let regional : c.keyed_hash-regional.result ≡ keyed (keyed (encode_utf8_all secret) date) signer.region =
     rw (c.keyed_hash-regional.ensures, c.as_slice.ensures, dated, c.as_bytes-3.ensures.value, c.as_str-4.ensures.bytes) refl in
