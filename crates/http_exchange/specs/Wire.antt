@@ -2,14 +2,11 @@
 use Rattle.std.specs.Prelude.{ℕ, Bool, nat_lt, ◌||◌, if◌then◌else◌, List, [], ◌∷◌, ◌++◌, codes, length, flat_map, bytes_eq, encode_utf8_all}
 use Rattle.std.specs.Fmt.{decimal}
 use Rattle.aws_world.specs.declared.message.Message.{Message}
+use Rattle.uri_texts.specs.Parameters.{parameter}
 
 -- a line of the head, with its line end
 abbrev pub line : List ℕ → List ℕ
 line text = text ++ 13 ∷ 10 ∷ []
-
--- a parameter of the query
-abbrev pub parameter : List ℕ × List ℕ → List ℕ
-parameter p = p.0 ++ codes "=" ++ p.1
 
 -- the query's parameters, the first behind the given mark and the others behind `&`
 abbrev pub parameters : ℕ → List (List ℕ × List ℕ) → List ℕ

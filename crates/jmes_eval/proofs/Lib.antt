@@ -17,7 +17,6 @@ pub mod SetAndGet
 pub mod Settings
 pub mod StableSorts
 pub mod Sums
-pub mod TextOrder
 pub mod TextParts
 pub mod TightTexts
 pub mod TypeNames

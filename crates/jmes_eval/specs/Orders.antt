@@ -1,17 +1,13 @@
 -- The order of numbers and of texts, and lists in that order.
 use Rattle.std.specs.Prelude.{ℕ, Bool, if◌then◌else◌, List, [], ◌∷◌, is_some, Option, None, Some}
 use Rattle.std.specs.declared.cmp.Ordering.{Ordering}
-use Rattle.std.specs.Cmp.Lexicographic.{slice_cmp}
 use Rattle.std.specs.Option.{option_cmp}
-use Rattle.std.specs.Ordering.{is_lt, nat_cmp, ordering_then}
+use Rattle.std.specs.Ordering.{is_lt, ordering_then}
 use Rattle.json_doc.specs.declared.doc.Doc as doc
 use Rattle.json_doc.specs.declared.doc.Doc.{Doc}
 use Rattle.json_doc.specs.DecimalValue.{value_cmp}
+use Rattle.texts.specs.Order.{text_cmp}
 use Rattle.jmes_eval.specs.Kinds.{number_of, text_of}
-
--- texts by code points
-abbrev pub text_cmp : List ℕ → List ℕ → Ordering
-text_cmp = slice_cmp nat_cmp
 
 -- numbers by value, texts by code points. Where one is none, it comes first; no list is sorted so.
 abbrev pub key_cmp : Doc → Doc → Ordering

@@ -1,11 +1,12 @@
 -- The canonical query: AWS's "Create a signed AWS API request", CanonicalQueryString.
-use Rattle.std.specs.Prelude.{ℕ, List, ◌++◌, map, codes, IsPermutation, IsSorted}
+use Rattle.std.specs.Prelude.{ℕ, List, map, codes, IsPermutation, IsSorted}
 use Rattle.std.specs.Borrow.{Bor}
 use Rattle.std.specs.Str.{chars}
 use Rattle.std.specs.Ordering.{ordering_then}
 use Rattle.std.specs.declared.cmp.Ordering.{Ordering}
 use Rattle.texts.specs.Joined.{joined}
 use Rattle.texts.specs.Order.{text_cmp}
+use Rattle.uri_texts.specs.Parameters.{parameter}
 
 -- by the name, then by the value
 abbrev pub parameter_cmp : List ℕ × List ℕ → List ℕ × List ℕ → Ordering
@@ -15,10 +16,6 @@ parameter_cmp p q = ordering_then (text_cmp p.0 q.0) (text_cmp p.1 q.1)
 pub record IsSortedQuery (query sorted : List (List ℕ × List ℕ)) : Type 0 where
   pub permutation : IsPermutation query sorted
   pub ascending : IsSorted parameter_cmp sorted
-
--- a parameter, whose name and value are already escaped
-abbrev pub parameter : List ℕ × List ℕ → List ℕ
-parameter p = p.0 ++ codes "=" ++ p.1
 
 -- the text of sorted parameters
 abbrev pub canonical_query : List (List ℕ × List ℕ) → List ℕ

@@ -1,5 +1,6 @@
 ghost use Rattle.std.specs.Prelude.{◌≡◌, ◌++◌, map, IfOk, OnOk};
-ghost use Rattle.sigv4.specs.Parameters.{IsSortedQuery, parameter, canonical_query, shown};
+ghost use Rattle.sigv4.specs.Parameters.{IsSortedQuery, canonical_query, shown};
+ghost use Rattle.uri_texts.specs.Parameters.{parameter};
 ghost use Rattle.std.specs.Str.{chars};
 
 use std::alloc::Global;

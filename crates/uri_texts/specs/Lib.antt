@@ -1,3 +1,4 @@
 pub mod Constants
 pub mod Escapes
+pub mod Parameters
 pub mod Templates

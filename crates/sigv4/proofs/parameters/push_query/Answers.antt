@@ -1,7 +1,8 @@
 use Rattle.std.proofs.Common.{rules, ℕ, List, [], ◌+◌, ◌++◌, drop, map, get_or, sym, ap, ◌∙◌, Bor}
 use Rattle.std.specs.Prelude.{codes}
 use Rattle.std.proofs.lemmas.List.{at_drop_more}
-use Rattle.sigv4.specs.Parameters.{parameter, shown}
+use Rattle.uri_texts.specs.Parameters.{parameter}
+use Rattle.sigv4.specs.Parameters.{shown}
 use Rattle.sigv4.proofs.Marks.{behind, behind_nothing, one_more}
 use Rattle.sigv4.proofs.parameters.push_query.Goals as goal
 

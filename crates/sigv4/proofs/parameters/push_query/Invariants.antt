@@ -3,7 +3,8 @@ use Rattle.std.specs.Prelude.{IsTrue, codes}
 use denote.Shadow.{shadow}
 use denote.Text.{Utf8}
 use Rattle.texts.specs.Ascii.{is_ascii_text}
-use Rattle.sigv4.specs.Parameters.{parameter, canonical_query, shown}
+use Rattle.uri_texts.specs.Parameters.{parameter}
+use Rattle.sigv4.specs.Parameters.{canonical_query, shown}
 use Rattle.sigv4.proofs.Marks.{behind}
 use Rattle.sigv4.proofs.parameters.push_query.Given as goal
 
