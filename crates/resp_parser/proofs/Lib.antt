@@ -1,7 +1,6 @@
 pub mod Answered
 pub mod AnyOrder
 pub mod Counted
-pub mod CutTexts
 pub mod Due
 pub mod Ending
 pub mod Firsts
@@ -20,6 +19,11 @@ pub mod Parts
 pub mod Permuted
 pub mod Placed
 pub mod Prefixes
+pub mod ShortHeaders
+pub mod ShortKept
+pub mod ShortLists
+pub mod ShortReads
+pub mod ShortReplies
 pub mod Tags
 pub mod Unchanged
 pub mod Wholes

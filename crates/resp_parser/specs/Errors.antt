@@ -1,7 +1,7 @@
 -- What a reply with an error tells (botocore's json and rest-json).
-use Rattle.std.specs.Prelude.{◌≡◌, ◌⊎◌, ℕ, ◌==◌, Bool, true, false, if◌then◌else◌, List, [], ◌∷◌, Option, None, Some, option_and_then, option_map, codes}
+use Rattle.std.specs.Prelude.{◌≡◌, ◌⊎◌, ℕ, Bool, true, false, if◌then◌else◌, List, [], ◌∷◌, Option, None, Some, option_and_then, option_map, codes}
 use Rattle.std.specs.Fmt.{decimal}
-use Rattle.std.specs.List.{list_any}
+use Rattle.std.specs.List.{last_or}
 use Rattle.std.specs.Option.{unwrap_or}
 use Rattle.aws_world.specs.declared.message.Reply.{Reply}
 use Rattle.aws_world.specs.Headers.{header_of}
@@ -10,22 +10,21 @@ use Rattle.json_doc.specs.declared.doc.Doc.TheOpen.{Doc-F}
 use Rattle.service_model.specs.declared.metadata.Protocol.{Protocol}
 use Rattle.service_model.specs.declared.metadata.Protocol.TheVariants.{RestJson}
 use Rattle.texts.specs.declared.pairs.Pair.{Pair}
+use Rattle.texts.specs.Cut.{cut, is_among}
 use Rattle.texts.specs.Keys.{value_at}
+use Rattle.texts.specs.Marks.{around_first}
 use Rattle.resp_parser.specs.declared.fault.ServiceError.{ServiceError}
 use Rattle.resp_parser.specs.Bodies.{DocumentOf, TextOf}
 use Rattle.resp_parser.specs.Kinds.{is_object}
 use Rattle.resp_parser.specs.Paths.{first_of}
 
--- the text before the first of this character
+-- the text before the first of these marks, or all of it
 abbrev pub before : ℕ → List ℕ → List ℕ
-before c [] = []
-before c (x ∷ xs) = if x == c then [] else x ∷ before c xs
+before mark text = unwrap_or (option_map (λ halves. halves.0) (around_first mark text)) text
 
--- the text behind the last of this character, or all of it
+-- the text behind the last of these marks, or all of it
 abbrev pub behind_last : ℕ → List ℕ → List ℕ
-behind_last c [] = []
-behind_last c (x ∷ xs) =
-    if list_any (λ y. y == c) xs then behind_last c xs else (if x == c then xs else x ∷ xs)
+behind_last mark text = unwrap_or (last_or None (cut (is_among (mark ∷ [])) text)) []
 
 -- a code without what stands behind its first `:` and up to the last `#` before that
 abbrev pub cut_code : List ℕ → List ℕ

@@ -13,6 +13,7 @@ use Rattle.json_doc.specs.DecimalValue.{signed}
 use Rattle.service_model.specs.declared.shape.Kind.{Kind}
 use Rattle.service_model.specs.declared.shape.Kind.TheVariants as kind
 use Rattle.texts.specs.Blanks.{trimmed}
+use Rattle.texts.specs.Cut.{cut, is_among}
 use Rattle.texts.specs.declared.pairs.Pair.{Pair}
 use Rattle.texts.specs.Keys.{value_at}
 use Rattle.resp_parser.specs.Bodies.{DocumentOf}
@@ -21,15 +22,9 @@ use Rattle.resp_parser.specs.Kinds.{is_null}
 use Rattle.resp_parser.specs.Paths.{Path}
 use Rattle.resp_parser.specs.Steps.{Step}
 
--- a character put before the first of some parts
-abbrev pub grown : ℕ → List (List ℕ) → List (List ℕ)
-grown c [] = (c ∷ []) ∷ []
-grown c (part ∷ parts) = (c ∷ part) ∷ parts
-
 -- the parts of a text between commas; an empty text is one part
 abbrev pub parts_of : List ℕ → List (List ℕ)
-parts_of [] = [] ∷ []
-parts_of (c ∷ cs) = if c == 44 then [] ∷ parts_of cs else grown c (parts_of cs)
+parts_of text = cut (is_among (codes ",")) text
 
 -- a whole number of 64 bits with a sign, given its digits
 abbrev pub within : Bool → List ℕ → Option ℤ

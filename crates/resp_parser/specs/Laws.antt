@@ -1,11 +1,11 @@
 -- What is true of all replies.
-use Rattle.std.specs.Prelude.{◌≡◌, Bool, true, false, ◌||◌, ◌&&◌, if◌then◌else◌, IsTrue, List, slice_get, Option, None, Some, Result, All, IsPermutation, bytes_eq, codes}
+use Rattle.std.specs.Prelude.{◌≡◌, ℕ, ◌+◌, ◌<◌, ◌≤◌, ◌^◌, Bool, true, false, ◌||◌, ◌&&◌, if◌then◌else◌, IsTrue, List, length, sum_by, slice_get, Option, None, Some, Result, Ok, All, IsPermutation, bytes_eq, codes}
 use Rattle.std.specs.List.{list_all}
 use Rattle.aws_world.specs.declared.message.Reply.{Reply}
 use Rattle.json_doc.specs.declared.doc.Doc as doc
-use Rattle.json_doc.specs.declared.doc.Doc.{Doc, out-Doc}
+use Rattle.json_doc.specs.declared.doc.Doc.{Doc}
 use Rattle.json_doc.specs.declared.doc.Doc.TheOpen.{Doc-F}
-use Rattle.json_doc.specs.declared.doc.Doc.TheFolds.{fold-Doc}
+use Rattle.json_doc.specs.declared.doc.Doc.TheFolds.{every-Doc, fold-Doc}
 use Rattle.service_model.specs.declared.model.Table.{Table}
 use Rattle.service_model.specs.declared.operation.Operation.{Operation}
 use Rattle.service_model.specs.declared.shape.Kind.TheVariants.{Structure}
@@ -80,3 +80,16 @@ OrderIsFree =
     → IsDistinct (keys ps) → IsPermutation ps qs
     → (fault_of shapes (doc.Fields ps) id ≡ fault_of shapes (doc.Fields qs) id)
     × (kept_of shapes (doc.Fields ps) (Some id) ≡ kept_of shapes (doc.Fields qs) (Some id))
+
+-- every list in a document has fewer items than this
+abbrev pub HasShortLists : ℕ → Doc-F Doc → Type 0
+HasShortLists most (Doc-F.Items ds) = length ds < most
+HasShortLists most others = Unit {0}
+
+-- The lists in the document of a reply within the limits of an exchange are short, whatever it holds: its headers
+-- have no more than 64 Ki characters, its body no more than 64 MiB.
+abbrev pub ListsAreShort : (Table → Operation → Reply → Result Doc ReplyFault → Type 0) → Type 0
+ListsAreShort May =
+    (table : Table) (op : Operation) (reply : Reply) (d : Doc)
+    → sum_by (λ h. length h.0 + length h.1) reply.headers ≤ 65536 → length reply.body ≤ 2 ^ 26
+    → May table op reply (Ok d) → every-Doc (HasShortLists (2 ^ 26)) d

@@ -1,5 +1,4 @@
 pub mod Bodies
-pub mod Cuts
 pub mod Ends
 pub mod Errors
 pub mod FaultTexts

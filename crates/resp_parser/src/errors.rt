@@ -8,11 +8,11 @@ ghost use Rattle.resp_parser.specs.Errors.{IsError, IsMessage, before, behind_la
 
 use crate::ServiceError;
 use crate::bodies::{document, text};
-use crate::cuts::cut;
 use aws_world::{Reply, header};
 use json_doc::{Doc, OutOfMemory, Text};
 use service_model::Protocol;
 use std::alloc::Global;
+use texts::around_first;
 
 /// The error that a reply tells of: the retries are the caller's to tell.
 pub(crate) fn service_error(
@@ -132,23 +132,22 @@ fn cut_code(code: &str) -> &str
     behind_last(before_colon(code))
 }
 
-#[tactic(auto, using(crate::proofs::Marks::before_all, crate::proofs::Marks::before_cut))]
 fn before_colon(code: &str) -> &str
     ensures { chars result.now ≡ before 58 (chars code.now) }
 {
-    match cut(code, ':') {
+    match around_first(code, ':') {
         Some((front, _)) => front,
         None => code,
     }
 }
 
 /// What stands behind the last `#`, or all of it.
-#[tactic(auto, using(crate::proofs::Marks::behind_all, crate::proofs::Marks::behind_cut))]
+#[tactic(auto, using(crate::proofs::Marks::behind_all, crate::proofs::Marks::behind_first, crate::proofs::Marks::is_shorter))]
 fn behind_last(code: &str) -> &str
     ensures { chars result.now ≡ behind_last 35 (chars code.now) }
 {
     let mut rest = code;
-    while let Some((_, behind)) = cut(rest, '#') {
+    while let Some((_, behind)) = around_first(rest, '#') {
         rest = behind;
     }
     rest

@@ -12,7 +12,6 @@ ghost use Rattle.base64.specs.Engines.{standard};
 
 use crate::bodies::document;
 use crate::body_fault::BodyFault;
-use crate::cuts::cut;
 use crate::paths::whole;
 use crate::values::there;
 use aws_world::{Reply, header};
@@ -21,7 +20,7 @@ use base64::engine::general_purpose::STANDARD;
 use json_doc::{Decimal, Doc, List, OutOfMemory, Pairs, Text};
 use service_model::{Kind, Member};
 use std::alloc::Global;
-use texts::trimmed;
+use texts::{cut, trimmed};
 
 /// The value of a member of this kind in its header, where there is one.
 pub(crate) fn header_value(
@@ -96,17 +95,14 @@ fn whole_of(text: &str) -> Option<i64>
 }
 
 /// The parts of a text between commas, each without blanks at its ends.
-#[tactic(auto, using(crate::proofs::Marks::parts_all, crate::proofs::Marks::parts_cut))]
 fn parts(alloc: Global, text: &str) -> Result<List<Doc>, OutOfMemory>
     ensures { IfOk result (λ made. made ≡ map (λ part. doc.Str (trimmed part)) (parts_of (chars text.now))) }
 {
+    let parts = cut(alloc, text, [','].as_slice())?;
     let mut made = List::new(alloc);
-    let mut rest = text;
-    while let Some((part, behind)) = cut(rest, ',') {
-        made.push(Doc::Str(Text::from_str(alloc, trimmed(part))?))?;
-        rest = behind;
+    for part in parts.as_slice() {
+        made.push(Doc::Str(Text::from_str(alloc, trimmed(part.as_str()))?))?;
     }
-    made.push(Doc::Str(Text::from_str(alloc, trimmed(rest))?))?;
     Ok(made)
 }
 

@@ -1,5 +1,6 @@
 //! Laws of replies, as functions that do nothing.
-ghost use Rattle.resp_parser.specs.Laws.{HasOneAnswer, HasOneHead, KeptHasKinds, OrderIsFree};
+ghost use Rattle.resp_parser.specs.Laws.{HasOneAnswer, HasOneHead, KeptHasKinds, ListsAreShort, OrderIsFree};
+ghost use Rattle.resp_parser.specs.Parsed.{IsParsed, IsParsedHead};
 
 /// A reply has one answer.
 pub fn reply_has_one_answer()
@@ -20,4 +21,10 @@ pub fn kept_has_kinds()
 /// The members of a structure may stand in any order.
 pub fn members_are_free()
     ensures { OrderIsFree }
+{}
+
+/// Whatever a reply within the limits of an exchange holds, no list in its document has 2^26 items.
+pub fn lists_are_short()
+    ensures whole { ListsAreShort IsParsed }
+    ensures head { ListsAreShort IsParsedHead }
 {}

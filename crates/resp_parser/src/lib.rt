@@ -4,7 +4,6 @@
 
 mod bodies;
 mod body_fault;
-mod cuts;
 mod errors;
 mod fault;
 mod fault_texts;
@@ -20,5 +19,7 @@ mod values;
 
 pub use fault::{ReplyFault, ServiceError};
 pub use fault_texts::{fault_text, service_text};
-pub use laws::{head_has_one_answer, kept_has_kinds, reply_has_one_answer};
+pub use laws::{
+    head_has_one_answer, kept_has_kinds, lists_are_short, members_are_free, reply_has_one_answer,
+};
 pub use parsing::{parse, parse_head};
