@@ -1,0 +1,8 @@
+mod Both
+mod Escapes
+mod FalseLeaves
+mod Fresh
+mod HostLabels
+mod Outcomes
+mod Passing
+mod Substrings

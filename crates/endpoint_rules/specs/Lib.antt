@@ -1,0 +1,12 @@
+pub mod Arns
+pub mod Endpoints
+pub mod FaultText
+pub mod Free
+pub mod HostLabels
+pub mod Kinds
+pub mod Laws
+pub mod Library
+pub mod Parameters
+pub mod Scopes
+pub mod Urls
+pub mod Values

@@ -1,0 +1,16 @@
+pub mod ArgumentTales
+pub mod CutParts
+pub mod Firsts
+pub mod KnownNames
+pub mod LeafCounts
+pub mod LeafParts
+pub mod Mapped
+pub mod Outcomes
+pub mod Placed
+pub mod PlacedPartitions
+pub mod PlacedRules
+pub mod ReadParts
+pub mod RuleTales
+pub mod Sizes
+pub mod Tales
+pub mod WholeRules

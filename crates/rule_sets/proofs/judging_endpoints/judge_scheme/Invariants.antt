@@ -1,0 +1,8 @@
+use Rattle.std.proofs.Common.{◌≡◌, drop}
+use Rattle.rule_sets.specs.BadRules.{judged_scheme_part}
+use Rattle.rule_sets.specs.BadPlaces.{each_field}
+use Rattle.rule_sets.proofs.judging_endpoints.judge_scheme.Given as goal
+
+-- what is left is judged as all is
+abbrev pub invariant-loop-field : goal.invariant-loop-field
+invariant-loop-field l = each_field (judged_scheme_part l.names) (drop l.field-index l.field-items) ≡ each_field (judged_scheme_part l.names) l.field-items

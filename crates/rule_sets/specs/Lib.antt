@@ -1,0 +1,11 @@
+pub mod BadPartitions
+pub mod BadPlaces
+pub mod BadRules
+pub mod Cuts
+pub mod FaultText
+pub mod Faults
+pub mod Laws
+pub mod Names
+pub mod Partitions
+pub mod Rules
+pub mod Trees
