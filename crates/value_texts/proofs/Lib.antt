@@ -1,0 +1,5 @@
+pub mod DenseParts
+pub mod JsonParts
+pub mod LostParts
+pub mod Marking
+pub mod SpotTables
