@@ -33,7 +33,7 @@ fn are_labels(parts: &[Text]) -> bool
 }
 
 /// 1 to 63 letters, digits and hyphens, without a hyphen at either end.
-fn is_label(text: &str) -> bool
+pub fn is_label(text: &str) -> bool
     ensures { result ≡ is_label (chars text.now) }
 {
     has_label_bytes(text) && has_label_form(text.as_bytes())

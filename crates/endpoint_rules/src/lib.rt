@@ -18,6 +18,7 @@ mod urls;
 
 pub use endpoint::{Endpoint, Param, Scheme};
 pub use fault::EndpointFault;
+pub use host_label::is_label;
 pub use laws::{endpoints_have_outcome, escapes_are_plain, false_leaves_are_free};
 pub use rule_sets::{
     MOST_LEAVES, Partitions, RuleFault, partitions_have_outcome, rules_have_outcome,

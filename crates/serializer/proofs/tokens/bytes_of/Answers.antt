@@ -1,0 +1,4 @@
+use Rattle.serializer.proofs.tokens.bytes_of.Goals as goal
+
+pub returns : goal.returns
+returns c = rw (c.to_be_bytes.ensures, c.to_be_bytes-2.ensures, c.to_be_bytes-3.ensures, c.to_be_bytes-4.ensures)

@@ -1,0 +1,11 @@
+pub mod Bodies
+pub mod FaultText
+pub mod Faults
+pub mod HeaderTexts
+pub mod HeaderNames
+pub mod Inside
+pub mod Labels
+pub mod Members
+pub mod Messages
+pub mod Queries
+pub mod Tokens

@@ -1,0 +1,20 @@
+//! Requests from values: the message of HTTP that an operation sends for a value, by the protocols `json`
+//! and `rest-json`, and the identifiers of members that have none.
+#![tactic(auto)]
+
+mod bodies;
+mod encode_fault;
+mod faults;
+mod header_lists;
+mod header_names;
+mod headers;
+mod labels;
+mod members;
+mod messages;
+mod queries;
+mod request;
+mod tokens;
+
+pub use encode_fault::EncodeFault;
+pub use messages::message;
+pub use tokens::{needs_token, with_token};
