@@ -1,7 +1,7 @@
 use Rattle.std.proofs.Common.{◌+◌, ◌*◌}
 use denote.Param.Weighed.{most}
 use Rattle.json_doc.specs.declared.doc.Doc.{size-Doc}
-use Rattle.model_rows.proofs.values.+typing.Given as goal
+use Rattle.row_values.proofs.values.+typing.Given as goal
 
 abbrev pub decreases-typed : goal.decreases-typed
 decreases-typed l = 2 * goal.size-typed l
