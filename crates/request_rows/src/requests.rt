@@ -92,10 +92,10 @@ fn signed_text(alloc: Global, message: &Message, service: &[u8]) -> Result<Text,
 fn message_text(alloc: Global, message: &Message) -> Result<Text, OutOfMemory> {
     let (method, path) = (&message.method, &message.path);
     let mut text = Text::from_string(format!(in alloc; "{method} {path}")?);
-    let mut mark = "?";
+    let mut mark = '?';
     for (name, value) in message.query.iter() {
         text.push_str(format!(in alloc; "{mark}{name}={value}")?.as_str())?;
-        mark = "&";
+        mark = '&';
     }
     for (name, value) in message.headers.iter() {
         text.push_str(format!(in alloc; "\n{name}: {value}")?.as_str())?;
