@@ -1,2 +1,3 @@
 pub mod HeaderSteps
 pub mod NoParameters
+pub mod Outcomes

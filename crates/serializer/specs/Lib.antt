@@ -5,6 +5,7 @@ pub mod HeaderTexts
 pub mod HeaderNames
 pub mod Inside
 pub mod Labels
+pub mod Laws
 pub mod Members
 pub mod Messages
 pub mod Queries

@@ -9,6 +9,7 @@ mod header_lists;
 mod header_names;
 mod headers;
 mod labels;
+mod laws;
 mod members;
 mod messages;
 mod queries;
@@ -16,5 +17,6 @@ mod request;
 mod tokens;
 
 pub use encode_fault::EncodeFault;
+pub use laws::values_have_outcome;
 pub use messages::message;
 pub use tokens::{needs_token, with_token};
