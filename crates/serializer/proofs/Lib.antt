@@ -1,3 +1,5 @@
 pub mod HeaderSteps
 pub mod NoParameters
 pub mod Outcomes
+pub mod CleanTexts
+pub mod CleanHeaders

@@ -1,5 +1,6 @@
 -- What the laws say.
-use Rattle.std.specs.Prelude.{◌≡◌, ℕ, ◌⊎◌, List, Result, Ok, Err}
+use Rattle.std.specs.Prelude.{◌≡◌, ℕ, ◌⊎◌, ◌&&◌, Bool, true, List, [], unwrap_or, Result, Ok, Err}
+use Rattle.std.specs.List.{list_all}
 use Rattle.aws_world.specs.declared.message.Message.{Message}
 use Rattle.endpoint_rules.specs.declared.endpoint.Endpoint.{Endpoint}
 use Rattle.service_model.specs.declared.model.Table.{Table}
@@ -7,6 +8,8 @@ use Rattle.service_model.specs.declared.operation.Operation.{Operation}
 use Rattle.typed_value.specs.declared.typed.Typed.{Typed}
 use Rattle.serializer.specs.declared.encode_fault.EncodeFault.{EncodeFault}
 use Rattle.serializer.specs.declared.encode_fault.EncodeFault.TheVariants.{EmptyLabel, BadHostLabel, TimeOutOfRange, BadHeaderText}
+use Rattle.serializer.specs.Faults.{Fields}
+use Rattle.serializer.specs.HeaderNames.{is_header_byte}
 use Rattle.serializer.specs.Messages.{encoded}
 
 -- it is a fault of the member of this name
@@ -19,3 +22,22 @@ abbrev pub ValuesHaveOutcome : Type 0
 ValuesHaveOutcome = (table : Table) (op : Operation) (value : Typed) (e : Endpoint)
     → ((m : Message) × (encoded table op value e ≡ Ok m))
     ⊎ ((name : List ℕ) × (fault : EncodeFault) × IsFaultOf name fault × (encoded table op value e ≡ Err fault))
+
+-- no control character of ASCII stands in it
+abbrev pub is_clean : List ℕ → Bool
+is_clean text = list_all is_header_byte text
+
+-- nor in the names and values of headers
+abbrev pub are_clean : Fields → Bool
+are_clean headers = list_all (λ h. is_clean h.0 && is_clean h.1) headers
+
+-- nor in what a model and an endpoint themselves give to headers
+abbrev pub has_clean_texts : Table → Operation → Endpoint → Bool
+has_clean_texts table op e =
+    is_clean op.name && is_clean table.metadata.target_prefix && is_clean table.metadata.json_version && is_clean e.host
+    && is_clean (unwrap_or op.host_prefix [])
+
+-- whatever the value is, no control character comes into the headers of its message
+abbrev pub HeadersAreClean : Type 0
+HeadersAreClean = (table : Table) (op : Operation) (value : Typed) (e : Endpoint) (m : Message)
+    → has_clean_texts table op e ≡ true → encoded table op value e ≡ Ok m → are_clean m.headers ≡ true

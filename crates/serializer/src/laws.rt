@@ -1,7 +1,13 @@
 //! What is true of all messages.
-ghost use Rattle.serializer.specs.Laws.{ValuesHaveOutcome};
+ghost use Rattle.serializer.specs.Laws.{ValuesHaveOutcome, HeadersAreClean};
 
 /// A value gives one message, or one fault that names a member.
 pub fn values_have_outcome()
     ensures { ValuesHaveOutcome }
+{}
+
+/// Whatever the value is, no control character of ASCII stands in a header's name or value, if none stands in
+/// what the model and the endpoint themselves give.
+pub fn headers_are_clean()
+    ensures { HeadersAreClean }
 {}
