@@ -32,10 +32,10 @@ use Rattle.serializer.specs.Members.{is_json}
 use Rattle.serializer.specs.Messages.{asked_of, host_pieces, is_usual_port, port_text, host_of, target_of, json_type, json_headers, first_headers, needs_type, with_type, headers_due, message_with, encoded_by, encoded}
 use Rattle.serializer.proofs.CleanTexts.{clean_from, clean_bytes, clean_either, clean_decimal, has_clean_text, clean_pieces}
 
-ok_same : {A : Type 0} (x y : A) → ◌≡◌ {A = Result A EncodeFault} (Ok x) (Ok y) → x ≡ y
+pub ok_same : {A : Type 0} (x y : A) → ◌≡◌ {A = Result A EncodeFault} (Ok x) (Ok y) → x ≡ y
 ok_same x y h = ap (λ r. elim r [ Ok z ↦ z | Err fault ↦ x ]) h
 
-then_ok : {A B : Type 0} (r : Result A EncodeFault) (f : A → Result B EncodeFault) (y : B) → (r >>= f) ≡ Ok y
+pub then_ok : {A B : Type 0} (r : Result A EncodeFault) (f : A → Result B EncodeFault) (y : B) → (r >>= f) ≡ Ok y
     → (x : A) × ((r ≡ Ok x) × (f x ≡ Ok y))
 then_ok (Ok x) f y h = (x, (refl, h))
 then_ok (Err fault) f y h = cc

@@ -3,3 +3,4 @@ pub mod NoParameters
 pub mod Outcomes
 pub mod CleanTexts
 pub mod CleanHeaders
+pub mod PathLabels

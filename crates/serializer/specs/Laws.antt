@@ -1,16 +1,19 @@
 -- What the laws say.
-use Rattle.std.specs.Prelude.{◌≡◌, ℕ, ◌⊎◌, ◌&&◌, Bool, true, List, [], unwrap_or, Result, Ok, Err}
+use Rattle.std.specs.Prelude.{◌≡◌, ℕ, ◌⊎◌, ◌&&◌, ◌||◌, Bool, true, not, nat_eq, List, [], ◌++◌, flat_map, unwrap_or, Result, Ok, Err}
 use Rattle.std.specs.List.{list_all}
 use Rattle.aws_world.specs.declared.message.Message.{Message}
 use Rattle.endpoint_rules.specs.declared.endpoint.Endpoint.{Endpoint}
 use Rattle.service_model.specs.declared.model.Table.{Table}
 use Rattle.service_model.specs.declared.operation.Operation.{Operation}
 use Rattle.typed_value.specs.declared.typed.Typed.{Typed}
+use Rattle.uri_texts.specs.declared.templates.Piece.{Piece}
+use Rattle.uri_texts.specs.declared.templates.Piece.TheVariants.{Plain, Label}
 use Rattle.serializer.specs.declared.encode_fault.EncodeFault.{EncodeFault}
 use Rattle.serializer.specs.declared.encode_fault.EncodeFault.TheVariants.{EmptyLabel, BadHostLabel, TimeOutOfRange, BadHeaderText}
 use Rattle.serializer.specs.Faults.{Fields}
 use Rattle.serializer.specs.HeaderNames.{is_header_byte}
-use Rattle.serializer.specs.Messages.{encoded}
+use Rattle.serializer.specs.Members.{is_json}
+use Rattle.serializer.specs.Messages.{base_path, encoded, path_pieces}
 
 -- it is a fault of the member of this name
 abbrev pub IsFaultOf : List ℕ → EncodeFault → Type 0
@@ -41,3 +44,22 @@ has_clean_texts table op e =
 abbrev pub HeadersAreClean : Type 0
 HeadersAreClean = (table : Table) (op : Operation) (value : Typed) (e : Endpoint) (m : Message)
     → has_clean_texts table op e ≡ true → encoded table op value e ≡ Ok m → are_clean m.headers ≡ true
+
+-- no `?` and no `#` stands in a label, and a `/` only in a greedy one
+abbrev pub stays_in_label : Bool → ℕ → Bool
+stays_in_label is_greedy c = not (nat_eq c 63) && not (nat_eq c 35) && (is_greedy || not (nat_eq c 47))
+
+-- a text stands where a template has a piece
+abbrev pub StandsIn : List ℕ → Piece → Type 0
+StandsIn text (Plain own) = text ≡ own
+StandsIn text (Label name is_greedy) = list_all (stays_in_label is_greedy) text ≡ true
+
+-- the endpoint's path, and behind it the template's pieces, each filled with what stays in its place
+abbrev pub IsFilledPath : Endpoint → List Piece → List ℕ → Type 0
+IsFilledPath e template path =
+    (fill : Piece → List ℕ) × (((p : Piece) → StandsIn (fill p) p) × (path ≡ base_path e.path ++ flat_map fill template))
+
+-- whatever the value is, what fills a label of the path stays in its place
+abbrev pub LabelsStayInPlace : Type 0
+LabelsStayInPlace = (table : Table) (op : Operation) (value : Typed) (e : Endpoint) (m : Message)
+    → encoded table op value e ≡ Ok m → IsFilledPath e (path_pieces (is_json table.metadata.protocol) op.uri) m.path
