@@ -1,0 +1,14 @@
+pub mod Characters
+pub mod CommaSteps
+pub mod Completes
+pub mod Finish
+pub mod Goes
+pub mod GroupSteps
+pub mod Kept
+pub mod Outcomes
+pub mod Pairs
+pub mod Passed
+pub mod QuoteSteps
+pub mod Reached
+pub mod StartSteps
+pub mod ValueSteps
