@@ -4,3 +4,4 @@ pub mod Outcomes
 pub mod CleanTexts
 pub mod CleanHeaders
 pub mod PathLabels
+pub mod QueryParts

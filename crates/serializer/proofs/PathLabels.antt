@@ -3,13 +3,14 @@ use Rattle.std.proofs.Common.{◌≡◌, ℕ, zero, suc, ◌/◌, ◌%◌, ◌==
 use Rattle.std.specs.Prelude.{Result, Ok, Err, nat_eq, flat_map, slice_index, codes, encode_utf8_all}
 use Rattle.std.specs.Cmp.Derive.{both_true}
 use Rattle.std.specs.List.{list_all}
-use Rattle.std.proofs.lemmas.Bool.{and_parts, eqb-true, false_from_ne_true, not_from_false}
+use Rattle.std.proofs.lemmas.Bool.{and_parts, eqb-true, false_from_ne_true, not_from_false, or_from}
 use Rattle.std.proofs.lemmas.List.Folds.{list_all-append}
 use Rattle.aws_world.specs.declared.message.Message.{Message}
 use Rattle.endpoint_rules.specs.declared.endpoint.Endpoint.{Endpoint}
 use Rattle.service_model.specs.declared.model.Table.{Table}
 use Rattle.service_model.specs.declared.operation.Operation.{Operation}
 use Rattle.service_model.specs.Admission.{members_at}
+use Rattle.texts.specs.Cut.{is_among}
 use Rattle.typed_value.specs.declared.typed.Typed.{Typed}
 use Rattle.uri_texts.specs.declared.templates.Piece.{Piece}
 use Rattle.uri_texts.specs.declared.templates.Piece.TheVariants.{Plain, Label}
@@ -17,31 +18,36 @@ use Rattle.uri_texts.specs.Escapes.{is_unreserved, escape, escaped_byte}
 use Rattle.serializer.specs.declared.labels.Labelled.TheVariants.{Path}
 use Rattle.serializer.specs.Faults.{Asked}
 use Rattle.serializer.specs.Labels.{slashes_of, path_piece, label_text}
-use Rattle.serializer.specs.Laws.{stays_in_label, StandsIn, IsFilledPath}
+use Rattle.serializer.specs.Laws.{stays_in_place, StandsIn, IsFilledPath}
 use Rattle.serializer.specs.Members.{is_json}
 use Rattle.serializer.specs.Messages.{asked_of, path_pieces, host_of, headers_due, message_with, encoded}
 use Rattle.serializer.proofs.CleanHeaders.{then_ok, ok_same}
 
--- what passes is none that doesn't
-other : (p : ℕ → Bool) (b k : ℕ) → p b ≡ true → p k ≡ false → not (nat_eq b k) ≡ true
-other p b k holds fails =
-    not_from_false (nat_eq b k)
-    (false_from_ne_true (nat_eq b k) (λ e. let same : true ≡ false = sym holds ∙ ap p (eqb-true b k e) ∙ fails in cc))
+not_both : (p : ℕ → Bool) (b k : ℕ) → p b ≡ true → not (p k) ≡ true → k ≡ b → ⊥
+not_both p b k holds fails same = let never : true ≡ false = sym fails ∙ ap not (ap p same ∙ holds) in cc
+
+-- what passes is none of what doesn't
+none_among : (p : ℕ → Bool) (b : ℕ) → p b ≡ true → (marks : List ℕ) → list_all (λ k. not (p k)) marks ≡ true → is_among marks b ≡ false
+none_among p b holds [] fail = refl
+none_among p b holds (k ∷ ks) fail =
+    let both = and_parts (not (p k)) (list_all (λ j. not (p j)) ks) fail in
+    or_from (nat_eq k b) (is_among ks b) (false_from_ne_true (nat_eq k b) (λ e. not_both p b k holds both.0 (eqb-true k b e)))
+    (none_among p b holds ks both.1)
 
 at_index : (p : ℕ → Bool) (xs : List ℕ) → list_all p xs ≡ true → p 0 ≡ true → (i : ℕ) → p (slice_index xs i) ≡ true
 at_index p [] all none i = none
 at_index p (x ∷ xs) all none zero = (and_parts (p x) (list_all p xs) all).0
 at_index p (x ∷ xs) all none (suc i) = at_index p xs (and_parts (p x) (list_all p xs) all).1 none i
 
-digit_stays : (is_greedy : Bool) (i : ℕ) → stays_in_label is_greedy (slice_index (codes "0123456789ABCDEF") i) ≡ true
-digit_stays true i = at_index (stays_in_label true) (codes "0123456789ABCDEF") refl refl i
-digit_stays false i = at_index (stays_in_label false) (codes "0123456789ABCDEF") refl refl i
+digit_stays : (is_greedy : Bool) (i : ℕ) → stays_in_place is_greedy (slice_index (codes "0123456789ABCDEF") i) ≡ true
+digit_stays true i = at_index (stays_in_place true) (codes "0123456789ABCDEF") refl refl i
+digit_stays false i = at_index (stays_in_place false) (codes "0123456789ABCDEF") refl refl i
 
-percent_stays : (is_greedy : Bool) → stays_in_label is_greedy 37 ≡ true
+percent_stays : (is_greedy : Bool) → stays_in_place is_greedy 37 ≡ true
 percent_stays true = refl
 percent_stays false = refl
 
-escape_stays : (is_greedy : Bool) (b : ℕ) → list_all (stays_in_label is_greedy) (escape b) ≡ true
+escape_stays : (is_greedy : Bool) (b : ℕ) → list_all (stays_in_place is_greedy) (escape b) ≡ true
 escape_stays is_greedy b =
     both_true (percent_stays is_greedy) (both_true (digit_stays is_greedy (b / 16)) (both_true (digit_stays is_greedy (b % 16)) refl))
 
@@ -54,20 +60,20 @@ by_test p false xs ys h k = k
 abbrev is_kept : Bool → ℕ → Bool
 is_kept is_greedy b = is_unreserved b || (is_greedy && (b == 47))
 
-byte_stays : (is_greedy : Bool) (b : ℕ) → list_all (stays_in_label is_greedy) (escaped_byte (slashes_of is_greedy) b) ≡ true
-byte_stays true b =
-    by_test (stays_in_label true) (is_kept true b) (b ∷ []) (escape b)
-    (λ kept. both_true (both_true (both_true (other (is_kept true) b 63 kept refl) (other (is_kept true) b 35 kept refl)) refl) refl) (escape_stays true b)
-byte_stays false b =
-    by_test (stays_in_label false) (is_kept false b) (b ∷ []) (escape b)
-    (λ kept. both_true
-    (both_true (both_true (other (is_kept false) b 63 kept refl) (other (is_kept false) b 35 kept refl)) (other (is_kept false) b 47 kept refl)) refl)
-    (escape_stays false b)
+kept_stays : (is_greedy : Bool) (b : ℕ) → is_kept is_greedy b ≡ true → stays_in_place is_greedy b ≡ true
+kept_stays true b kept = not_from_false (is_among (codes "?#&=") b) (none_among (is_kept true) b kept (codes "?#&=") refl)
+kept_stays false b kept = not_from_false (is_among (codes "?#&=/") b) (none_among (is_kept false) b kept (codes "?#&=/") refl)
 
-bytes_stay : (is_greedy : Bool) (bytes : List ℕ) → list_all (stays_in_label is_greedy) (flat_map (escaped_byte (slashes_of is_greedy)) bytes) ≡ true
+byte_stays : (is_greedy : Bool) (b : ℕ) → list_all (stays_in_place is_greedy) (escaped_byte (slashes_of is_greedy) b) ≡ true
+byte_stays true b =
+    by_test (stays_in_place true) (is_kept true b) (b ∷ []) (escape b) (λ kept. both_true (kept_stays true b kept) refl) (escape_stays true b)
+byte_stays false b =
+    by_test (stays_in_place false) (is_kept false b) (b ∷ []) (escape b) (λ kept. both_true (kept_stays false b kept) refl) (escape_stays false b)
+
+pub bytes_stay : (is_greedy : Bool) (bytes : List ℕ) → list_all (stays_in_place is_greedy) (flat_map (escaped_byte (slashes_of is_greedy)) bytes) ≡ true
 bytes_stay is_greedy [] = refl
 bytes_stay is_greedy (b ∷ bytes) =
-    list_all-append (stays_in_label is_greedy) (escaped_byte (slashes_of is_greedy) b) (flat_map (escaped_byte (slashes_of is_greedy)) bytes)
+    list_all-append (stays_in_place is_greedy) (escaped_byte (slashes_of is_greedy) b) (flat_map (escaped_byte (slashes_of is_greedy)) bytes)
     ∙ both_true (byte_stays is_greedy b) (bytes_stay is_greedy bytes)
 
 piece_stands : (asked : Asked) (p : Piece) → StandsIn (path_piece asked.table.shapes (members_at asked.table.shapes asked.op.input) asked.fields p) p

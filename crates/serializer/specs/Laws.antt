@@ -1,10 +1,11 @@
 -- What the laws say.
-use Rattle.std.specs.Prelude.{◌≡◌, ℕ, ◌⊎◌, ◌&&◌, ◌||◌, Bool, true, not, nat_eq, List, [], ◌++◌, flat_map, unwrap_or, Result, Ok, Err}
+use Rattle.std.specs.Prelude.{◌≡◌, ℕ, ◌⊎◌, ◌&&◌, Bool, true, false, not, List, [], ◌++◌, flat_map, unwrap_or, Result, Ok, Err, codes}
 use Rattle.std.specs.List.{list_all}
 use Rattle.aws_world.specs.declared.message.Message.{Message}
 use Rattle.endpoint_rules.specs.declared.endpoint.Endpoint.{Endpoint}
 use Rattle.service_model.specs.declared.model.Table.{Table}
 use Rattle.service_model.specs.declared.operation.Operation.{Operation}
+use Rattle.texts.specs.Cut.{is_among}
 use Rattle.typed_value.specs.declared.typed.Typed.{Typed}
 use Rattle.uri_texts.specs.declared.templates.Piece.{Piece}
 use Rattle.uri_texts.specs.declared.templates.Piece.TheVariants.{Plain, Label}
@@ -45,14 +46,19 @@ abbrev pub HeadersAreClean : Type 0
 HeadersAreClean = (table : Table) (op : Operation) (value : Typed) (e : Endpoint) (m : Message)
     → has_clean_texts table op e ≡ true → encoded table op value e ≡ Ok m → are_clean m.headers ≡ true
 
--- no `?` and no `#` stands in a label, and a `/` only in a greedy one
-abbrev pub stays_in_label : Bool → ℕ → Bool
-stays_in_label is_greedy c = not (nat_eq c 63) && not (nat_eq c 35) && (is_greedy || not (nat_eq c 47))
+-- marks of a URI: what stands between them is in its place where it has none of them
+abbrev pub marks_around : Bool → List ℕ
+marks_around true = codes "?#&="
+marks_around false = codes "?#&=/"
+
+-- a `/` may stand in what fills a greedy label
+abbrev pub stays_in_place : Bool → ℕ → Bool
+stays_in_place is_greedy c = not (is_among (marks_around is_greedy) c)
 
 -- a text stands where a template has a piece
 abbrev pub StandsIn : List ℕ → Piece → Type 0
 StandsIn text (Plain own) = text ≡ own
-StandsIn text (Label name is_greedy) = list_all (stays_in_label is_greedy) text ≡ true
+StandsIn text (Label name is_greedy) = list_all (stays_in_place is_greedy) text ≡ true
 
 -- the endpoint's path, and behind it the template's pieces, each filled with what stays in its place
 abbrev pub IsFilledPath : Endpoint → List Piece → List ℕ → Type 0
@@ -63,3 +69,14 @@ IsFilledPath e template path =
 abbrev pub LabelsStayInPlace : Type 0
 LabelsStayInPlace = (table : Table) (op : Operation) (value : Typed) (e : Endpoint) (m : Message)
     → encoded table op value e ≡ Ok m → IsFilledPath e (path_pieces (is_json table.metadata.protocol) op.uri) m.path
+
+abbrev pub is_in_place : List ℕ × List ℕ → Bool
+is_in_place parameter = list_all (stays_in_place false) parameter.0 && list_all (stays_in_place false) parameter.1
+
+abbrev pub stay_in_place : Fields → Bool
+stay_in_place parameters = list_all is_in_place parameters
+
+-- nor does such a mark stand in the name or the value of a parameter
+abbrev pub ParametersStayInPlace : Type 0
+ParametersStayInPlace = (table : Table) (op : Operation) (value : Typed) (e : Endpoint) (m : Message)
+    → encoded table op value e ≡ Ok m → stay_in_place m.query ≡ true

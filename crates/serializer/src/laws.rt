@@ -1,5 +1,5 @@
 //! What is true of all messages.
-ghost use Rattle.serializer.specs.Laws.{ValuesHaveOutcome, HeadersAreClean, LabelsStayInPlace};
+ghost use Rattle.serializer.specs.Laws.{ValuesHaveOutcome, HeadersAreClean, LabelsStayInPlace, ParametersStayInPlace};
 
 /// A value gives one message, or one fault that names a member.
 pub fn values_have_outcome()
@@ -12,8 +12,13 @@ pub fn headers_are_clean()
     ensures { HeadersAreClean }
 {}
 
-/// Whatever the value is, what fills a label of the path has no `?` and no `#`, and a `/` only where the label is
-/// greedy; all else in the path is the endpoint's and the model's.
+/// Whatever the value is, what fills a label of the path has no `?`, `#`, `&` or `=`, and a `/` only where the label
+/// is greedy; all else in the path is the endpoint's and the model's.
 pub fn labels_stay_in_place()
     ensures { LabelsStayInPlace }
+{}
+
+/// Nor has the name or the value of a parameter in the query.
+pub fn parameters_stay_in_place()
+    ensures { ParametersStayInPlace }
 {}

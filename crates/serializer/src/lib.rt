@@ -17,6 +17,8 @@ mod request;
 mod tokens;
 
 pub use encode_fault::EncodeFault;
-pub use laws::{headers_are_clean, labels_stay_in_place, values_have_outcome};
+pub use laws::{
+    headers_are_clean, labels_stay_in_place, parameters_stay_in_place, values_have_outcome,
+};
 pub use messages::message;
 pub use tokens::{needs_token, with_token};
