@@ -30,7 +30,8 @@ use Rattle.serializer.specs.Labels.{fills, has_label, member_text, label_text, h
 use Rattle.serializer.specs.Laws.{is_clean, are_clean, has_clean_texts}
 use Rattle.serializer.specs.Members.{is_json}
 use Rattle.serializer.specs.Messages.{asked_of, host_pieces, is_usual_port, port_text, host_of, target_of, json_type, json_headers, first_headers, needs_type, with_type, headers_due, message_with, encoded_by, encoded}
-use Rattle.serializer.proofs.CleanTexts.{clean_from, clean_bytes, clean_either, clean_decimal, has_clean_text, clean_pieces}
+use Rattle.serializer.proofs.CleanTexts.{clean_from, clean_bytes, clean_either, clean_decimal}
+use Rattle.serializer.proofs.PieceTexts.{has_text, pieces_have}
 
 pub ok_same : {A : Type 0} (x y : A) → ◌≡◌ {A = Result A EncodeFault} (Ok x) (Ok y) → x ≡ y
 ok_same x y h = ap (λ r. elim r [ Ok z ↦ z | Err fault ↦ x ]) h
@@ -139,11 +140,11 @@ clean_label shapes ps name [] all = refl
 clean_label shapes ps name (m ∷ ms) all =
     chosen (fills Host name m) (member_text shapes ps m) (label_text shapes Host ms ps name) all.0 (clean_label shapes ps name ms all.1)
 
-clean_prefix : (asked : Asked) (ms : List Member) (pieces : List Piece) → list_all has_clean_text pieces ≡ true
+clean_prefix : (asked : Asked) (ms : List Member) (pieces : List Piece) → list_all (has_text is_header_byte) pieces ≡ true
     → AllByRecursion (FillsCleanly asked pieces) ms → is_clean (host_text asked.table.shapes ms asked.fields pieces) ≡ true
 clean_prefix asked ms [] plain all = refl
 clean_prefix asked ms (Plain text ∷ pieces) plain all =
-    let both = and_parts (is_clean text) (list_all has_clean_text pieces) plain in
+    let both = and_parts (is_clean text) (list_all (has_text is_header_byte) pieces) plain in
     list_all-append is_header_byte text (host_text asked.table.shapes ms asked.fields pieces)
     ∙ both_true both.0 (clean_prefix asked ms pieces both.1 all)
 clean_prefix asked ms (Label name is_greedy ∷ pieces) plain all =
@@ -157,9 +158,9 @@ clean_prefix asked ms (Label name is_greedy ∷ pieces) plain all =
     (all_so (FillsCleanly asked (Label name is_greedy ∷ pieces)) (FillsCleanly asked pieces)
     (λ m h holds. h (or_right (fills Host name m) (has_label Host pieces m) holds)) ms all))
 
-clean_pieces_of : (prefix : Option (List ℕ)) → is_clean (unwrap_or prefix []) ≡ true → list_all has_clean_text (host_pieces prefix) ≡ true
+clean_pieces_of : (prefix : Option (List ℕ)) → is_clean (unwrap_or prefix []) ≡ true → list_all (has_text is_header_byte) (host_pieces prefix) ≡ true
 clean_pieces_of None h = refl
-clean_pieces_of (Some prefix) h = clean_pieces prefix h
+clean_pieces_of (Some prefix) h = pieces_have is_header_byte refl prefix h
 
 clean_port : (e : Endpoint) → is_clean (port_text e) ≡ true
 clean_port e = clean_either (is_usual_port e.scheme e.port) [] (codes ":" ++ decimal e.port) refl (both_true refl (clean_decimal e.port))
@@ -178,7 +179,7 @@ clean_type : (asked : Asked) (hs : Fields) → are_clean hs ≡ true → are_cle
 clean_type asked hs h =
     fields_if (needs_type asked hs) (hs ++ (codes "Content-Type", codes "application/json") ∷ []) hs (clean_behind hs _ h refl) h
 
-clean_host : (asked : Asked) (e : Endpoint) (ms : List Member) → is_clean e.host ≡ true → list_all has_clean_text asked.host ≡ true
+clean_host : (asked : Asked) (e : Endpoint) (ms : List Member) → is_clean e.host ≡ true → list_all (has_text is_header_byte) asked.host ≡ true
     → AllByRecursion (λ m. parts_fault asked m ≡ None) ms
     → is_clean (host_text asked.table.shapes ms asked.fields asked.host ++ e.host ++ port_text e) ≡ true
 clean_host asked e ms host plain none =

@@ -1,17 +1,12 @@
 -- Texts without control characters of ASCII.
-use Rattle.std.proofs.Common.{◌≡◌, ◌⊎◌, inl, inr, ⊎_elim, ℕ, zero, suc, ◌/◌, ◌%◌, ◌==◌, ◌<◌, ◌≤◌, Bool, true, false, not, ◌||◌, cond, List, [], ◌∷◌, ◌++◌, Option, None, Some, refl, sym, ap, ◌∙◌, if◌then◌else◌, arith}
-use Rattle.std.specs.Prelude.{nat_eq, flat_map, option_map, encode_utf8, encode_utf8_all}
+use Rattle.std.proofs.Common.{◌≡◌, ◌⊎◌, inl, inr, ⊎_elim, ℕ, zero, suc, ◌/◌, ◌%◌, ◌==◌, ◌<◌, ◌≤◌, Bool, true, false, not, ◌||◌, List, [], ◌∷◌, ◌++◌, refl, sym, ap, ◌∙◌, if◌then◌else◌, arith}
+use Rattle.std.specs.Prelude.{nat_eq, encode_utf8, encode_utf8_all}
 use Rattle.std.specs.Cmp.Derive.{both_true}
 use Rattle.std.specs.Fmt.{decimal, digits, digits_onto, digit_glyph}
-use Rattle.std.specs.List.{list_all, slice_split, onto_first}
+use Rattle.std.specs.List.{list_all}
 use Rattle.std.proofs.lemmas.Bool.{agree_below, agree_below_at, and_parts, cases_lt, eqb-true, false_from_ne_true, le-leb, not_from_false}
 use Rattle.std.proofs.lemmas.List.Folds.{list_all-append}
 use Rattle.std.proofs.lemmas.Str.{encode_ascii}
-use Rattle.texts.specs.Cut.{cut, is_among}
-use Rattle.texts.specs.Marks.{around_first, without_last}
-use Rattle.uri_texts.specs.declared.templates.Piece.{Piece}
-use Rattle.uri_texts.specs.declared.templates.Piece.TheVariants.{Plain, Label}
-use Rattle.uri_texts.specs.Templates.{pieces_behind, pieces_between, pieces}
 use Rattle.serializer.specs.HeaderNames.{is_header_byte}
 use Rattle.serializer.specs.Laws.{is_clean}
 
@@ -71,72 +66,3 @@ clean_digits (suc k) n behind h =
 pub clean_decimal : (n : ℕ) → is_clean (decimal n) ≡ true
 unfolding digits
 clean_decimal n = clean_digits 64 n [] refl
-
-onto : (c : ℕ) (parts : List (List ℕ)) → is_header_byte c ≡ true → list_all is_clean parts ≡ true → list_all is_clean (onto_first c parts) ≡ true
-onto c [] h k = both_true (both_true h refl) refl
-onto c (part ∷ parts) h k =
-    let both = and_parts (is_clean part) (list_all is_clean parts) k in
-    both_true (both_true h both.0) both.1
-
-either_parts : (b : Bool) (xs ys : List (List ℕ)) → list_all is_clean xs ≡ true → list_all is_clean ys ≡ true → list_all is_clean (cond b xs ys) ≡ true
-either_parts true xs ys h k = h
-either_parts false xs ys h k = k
-
-clean_cut : (p : ℕ → Bool) (text : List ℕ) → is_clean text ≡ true → list_all is_clean (slice_split p text) ≡ true
-clean_cut p [] h = refl
-clean_cut p (c ∷ cs) h =
-    let both = and_parts (is_header_byte c) (is_clean cs) h in
-    let rest = clean_cut p cs both.1 in
-    either_parts (p c) ([] ∷ slice_split p cs) (onto_first c (slice_split p cs)) (both_true refl rest) (onto c (slice_split p cs) both.0 rest)
-
-abbrev AreCleanHalves : Option (List ℕ × List ℕ) → Type 0
-AreCleanHalves None = Unit {0}
-AreCleanHalves (Some halves) = (is_clean halves.0 ≡ true) × (is_clean halves.1 ≡ true)
-
-halves_if : (b : Bool) (c : ℕ) (cs : List ℕ) (found : Option (List ℕ × List ℕ)) → is_header_byte c ≡ true → is_clean cs ≡ true → AreCleanHalves found
-    → AreCleanHalves (if b then Some ([], cs) else option_map (λ halves. (c ∷ halves.0, halves.1)) found)
-halves_if true c cs found h k f = (refl, k)
-halves_if false c cs None h k f = tt
-halves_if false c cs (Some halves) h k f = (both_true h f.0, f.1)
-
-clean_halves : (mark : ℕ) (text : List ℕ) → is_clean text ≡ true → AreCleanHalves (around_first mark text)
-clean_halves mark [] h = tt
-clean_halves mark (c ∷ cs) h =
-    let both = and_parts (is_header_byte c) (is_clean cs) h in
-    halves_if (nat_eq c mark) c cs (around_first mark cs) both.0 both.1 (clean_halves mark cs both.1)
-
--- the text of a template's piece is clean, unless it is a label
-abbrev pub has_clean_text : Piece → Bool
-has_clean_text (Plain text) = is_clean text
-has_clean_text (Label name is_greedy) = true
-
-label_has : (found : Option (List ℕ)) (name : List ℕ)
-    → has_clean_text (elim found [ Some front ↦ Label front true | None ↦ Label name false ]) ≡ true
-label_has None name = refl
-label_has (Some front) name = refl
-
-behind_has : (found : Option (List ℕ × List ℕ)) (part : List ℕ) → is_clean part ≡ true → AreCleanHalves found
-    → list_all has_clean_text (elim found [
-      | Some halves ↦ (elim (without_last 43 halves.0) [ Some front ↦ Label front true | None ↦ Label halves.0 false ]) ∷ Plain halves.1 ∷ []
-      | None ↦ Plain (123 ∷ part) ∷ []
-    ])
-    ≡ true
-behind_has None part h f = both_true (both_true refl h) refl
-behind_has (Some halves) part h f = both_true (label_has (without_last 43 halves.0) halves.0) (both_true f.1 refl)
-
-parts_have : (parts : List (List ℕ)) → list_all is_clean parts ≡ true → list_all has_clean_text (flat_map pieces_behind parts) ≡ true
-parts_have [] h = refl
-parts_have (part ∷ parts) h =
-    let both = and_parts (is_clean part) (list_all is_clean parts) h in
-    list_all-append has_clean_text (pieces_behind part) (flat_map pieces_behind parts)
-    ∙ both_true (behind_has (around_first 125 part) part both.0 (clean_halves 125 part both.0)) (parts_have parts both.1)
-
-between_has : (parts : List (List ℕ)) → list_all is_clean parts ≡ true → list_all has_clean_text (pieces_between parts) ≡ true
-between_has [] h = refl
-between_has (text ∷ parts) h =
-    let both = and_parts (is_clean text) (list_all is_clean parts) h in
-    both_true both.0 (parts_have parts both.1)
-
--- the pieces of a clean template are clean
-pub clean_pieces : (template : List ℕ) → is_clean template ≡ true → list_all has_clean_text (pieces template) ≡ true
-clean_pieces template h = between_has (cut (is_among (123 ∷ [])) template) (clean_cut (is_among (123 ∷ [])) template h)

@@ -5,3 +5,5 @@ pub mod CleanTexts
 pub mod CleanHeaders
 pub mod PathLabels
 pub mod QueryParts
+pub mod PieceTexts
+pub mod PathMarks

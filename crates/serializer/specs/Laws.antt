@@ -1,5 +1,5 @@
 -- What the laws say.
-use Rattle.std.specs.Prelude.{◌≡◌, ℕ, ◌⊎◌, ◌&&◌, Bool, true, false, not, List, [], ◌++◌, flat_map, unwrap_or, Result, Ok, Err, codes}
+use Rattle.std.specs.Prelude.{◌≡◌, ℕ, ◌⊎◌, ◌&&◌, Bool, true, false, not, nat_eq, List, [], ◌++◌, flat_map, unwrap_or, Result, Ok, Err, codes}
 use Rattle.std.specs.List.{list_all}
 use Rattle.aws_world.specs.declared.message.Message.{Message}
 use Rattle.endpoint_rules.specs.declared.endpoint.Endpoint.{Endpoint}
@@ -70,13 +70,21 @@ abbrev pub LabelsStayInPlace : Type 0
 LabelsStayInPlace = (table : Table) (op : Operation) (value : Typed) (e : Endpoint) (m : Message)
     → encoded table op value e ≡ Ok m → IsFilledPath e (path_pieces (is_json table.metadata.protocol) op.uri) m.path
 
+abbrev pub is_in_path : ℕ → Bool
+is_in_path c = not (nat_eq c 63)
+
+-- no query begins in a path where none begins in the endpoint's
+abbrev pub PathsHaveNoQuery : Type 0
+PathsHaveNoQuery = (table : Table) (op : Operation) (value : Typed) (e : Endpoint) (m : Message)
+    → list_all is_in_path e.path ≡ true → encoded table op value e ≡ Ok m → list_all is_in_path m.path ≡ true
+
 abbrev pub is_in_place : List ℕ × List ℕ → Bool
 is_in_place parameter = list_all (stays_in_place false) parameter.0 && list_all (stays_in_place false) parameter.1
 
 abbrev pub stay_in_place : Fields → Bool
 stay_in_place parameters = list_all is_in_place parameters
 
--- nor does such a mark stand in the name or the value of a parameter
+-- no such mark stands in the name or the value of a parameter, whatever the value is
 abbrev pub ParametersStayInPlace : Type 0
 ParametersStayInPlace = (table : Table) (op : Operation) (value : Typed) (e : Endpoint) (m : Message)
     → encoded table op value e ≡ Ok m → stay_in_place m.query ≡ true

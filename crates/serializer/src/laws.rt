@@ -1,5 +1,5 @@
 //! What is true of all messages.
-ghost use Rattle.serializer.specs.Laws.{ValuesHaveOutcome, HeadersAreClean, LabelsStayInPlace, ParametersStayInPlace};
+ghost use Rattle.serializer.specs.Laws.{ValuesHaveOutcome, HeadersAreClean, LabelsStayInPlace, ParametersStayInPlace, PathsHaveNoQuery};
 
 /// A value gives one message, or one fault that names a member.
 pub fn values_have_outcome()
@@ -18,7 +18,12 @@ pub fn labels_stay_in_place()
     ensures { LabelsStayInPlace }
 {}
 
-/// Nor has the name or the value of a parameter in the query.
+/// No `?` stands in a path, if none stands in the endpoint's.
+pub fn paths_have_no_query()
+    ensures { PathsHaveNoQuery }
+{}
+
+/// The name and the value of a parameter in the query have no `?`, `#`, `&`, `=` or `/`.
 pub fn parameters_stay_in_place()
     ensures { ParametersStayInPlace }
 {}
