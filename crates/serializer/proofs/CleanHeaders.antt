@@ -25,11 +25,11 @@ use Rattle.serializer.specs.declared.encode_fault.EncodeFault.{EncodeFault}
 use Rattle.serializer.specs.declared.encode_fault.EncodeFault.TheVariants.{EmptyLabel, BadHostLabel, TimeOutOfRange, BadHeaderText}
 use Rattle.serializer.specs.declared.labels.Labelled.TheVariants.{Path, Host}
 use Rattle.serializer.specs.Faults.{Asked, Fields, are_bad, is_lost_as, is_lost_member, fills_label, label_fault, parts_fault, checked, headers_of, with_member, headers_from}
-use Rattle.serializer.specs.HeaderNames.{is_header_byte, is_plain, is_token, is_token_byte, are_token_bytes, is_forbidden, is_among, is_bad_header}
+use Rattle.serializer.specs.HeaderNames.{is_header_byte, is_plain, is_token, is_token_byte, is_forbidden, is_among, is_bad_header}
 use Rattle.serializer.specs.Labels.{fills, has_label, member_text, label_text, host_text}
 use Rattle.serializer.specs.Laws.{is_clean, are_clean, has_clean_texts}
 use Rattle.serializer.specs.Members.{is_json}
-use Rattle.serializer.specs.Messages.{asked_of, host_pieces, is_usual_port, port_text, host_of, target_of, json_type, json_headers, first_headers, needs_type, with_type, headers_due, message_with, encoded_by, encoded}
+use Rattle.serializer.specs.Messages.{asked_of, host_pieces, is_usual_port, port_text, host_of, target_of, json_type, json_headers, first_headers, needs_type, with_type, headers_due, message_with, encoded}
 use Rattle.serializer.proofs.CleanTexts.{clean_from, clean_bytes, clean_either, clean_decimal}
 use Rattle.serializer.proofs.PieceTexts.{has_text, pieces_have}
 

@@ -1,6 +1,6 @@
 -- What stands in a parameter of the query stays in its place.
-use Rattle.std.proofs.Common.{◌≡◌, ℕ, Bool, true, false, ◌&&◌, List, [], ◌∷◌, ◌++◌, map, Option, None, Some, refl, sym, ap, subst, ◌∙◌, if◌then◌else◌}
-use Rattle.std.specs.Prelude.{Result, Ok, Err, filter, encode_utf8_all}
+use Rattle.std.proofs.Common.{◌≡◌, ℕ, Bool, true, false, List, [], ◌∷◌, map, Option, None, Some, refl, subst, ◌∙◌, if◌then◌else◌}
+use Rattle.std.specs.Prelude.{Ok, filter, encode_utf8_all}
 use Rattle.std.specs.Cmp.Derive.{both_true}
 use Rattle.std.specs.List.{list_all, flat_map}
 use Rattle.std.proofs.lemmas.List.Folds.{list_all-append}
@@ -30,7 +30,7 @@ use Rattle.serializer.specs.Faults.{Asked, Fields}
 use Rattle.serializer.specs.Laws.{stays_in_place, is_in_place, stay_in_place}
 use Rattle.serializer.specs.Members.{is_json}
 use Rattle.serializer.specs.Messages.{asked_of, host_of, headers_due, message_with, query_of, encoded}
-use Rattle.serializer.specs.Queries.{parameter, item_parameters, parameters_in, value_parameters, entry_parameters, member_parameters_in, is_in_query, given_parameters, parameters_of}
+use Rattle.serializer.specs.Queries.{parameter, item_parameters, parameters_in, entry_parameters, member_parameters_in, is_in_query, given_parameters, parameters_of}
 use Rattle.serializer.proofs.CleanHeaders.{then_ok, ok_same}
 use Rattle.serializer.proofs.PathLabels.{bytes_stay}
 

@@ -1,5 +1,5 @@
 -- What the laws say.
-use Rattle.std.specs.Prelude.{◌≡◌, ℕ, ◌⊎◌, ◌&&◌, Bool, true, false, not, nat_eq, List, [], ◌++◌, flat_map, unwrap_or, Result, Ok, Err, codes}
+use Rattle.std.specs.Prelude.{◌≡◌, ℕ, ◌⊎◌, ◌&&◌, Bool, true, false, not, nat_eq, List, [], ◌++◌, flat_map, unwrap_or, Ok, Err, codes}
 use Rattle.std.specs.List.{list_all}
 use Rattle.aws_world.specs.declared.message.Message.{Message}
 use Rattle.endpoint_rules.specs.declared.endpoint.Endpoint.{Endpoint}
