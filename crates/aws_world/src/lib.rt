@@ -26,8 +26,10 @@ mod tests;
 
 pub use clock::Clock;
 pub use connection::Connection;
+pub use connection_log::ConnectionLog;
 pub use dice::{Dice, DiceFault};
 pub use env::Env;
+pub use fault_plan::FaultPlan;
 pub use files::{FileEnd, Files};
 pub use headers::header;
 pub use link::{Link, LinkFault};
@@ -38,4 +40,4 @@ pub use mem_sink::MemSink;
 pub use message::{Message, Reply, Target};
 pub use script_link::ScriptLink;
 pub use sink::{Sink, SinkFault};
-pub use talk::Script;
+pub use talk::{Script, Talk};

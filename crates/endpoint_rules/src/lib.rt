@@ -24,4 +24,6 @@ pub use rule_sets::{
     MOST_LEAVES, Partitions, RuleFault, partitions_have_outcome, rules_have_outcome,
 };
 pub use rules::RuleSet;
+pub use scope::Scope;
+pub use stop::Stop;
 pub use urls::endpoint_of;

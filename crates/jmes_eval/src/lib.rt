@@ -28,3 +28,4 @@ pub use evaluate::search;
 pub use laws::set_is_found;
 pub use query_fault::QueryFault;
 pub use setting::set;
+pub use signature::Form;

@@ -5,7 +5,7 @@ use jmes_syntax::Function;
 
 /// What a function is called with.
 #[derive(Clone, Copy, Debug, PartialEq, Eq)]
-pub(crate) enum Form {
+pub enum Form {
     /// One value.
     One,
     /// Two values.

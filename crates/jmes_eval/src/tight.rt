@@ -5,7 +5,7 @@ ghost use Rattle.texts.specs.Joined.{joined};
 ghost use Rattle.json_doc.specs.declared.doc.Doc.TheVariants.{Str};
 ghost use Rattle.jmes_eval.specs.Texts.{to_string_of, tight_of, tight_pair};
 
-use json_doc::{Doc, OutOfMemory, Pair, Text, compact};
+use json_doc::{Doc, Layout, OutOfMemory, Pair, Text, push_compact, push_quoted};
 use std::alloc::Global;
 
 /// A text as it is, any other value as its text without blanks behind `,` and `:`.
@@ -16,34 +16,34 @@ pub(crate) fn to_string(alloc: Global, doc: &Doc) -> Result<Doc, OutOfMemory>
         return Ok(Doc::Str(text.copy(alloc)?));
     }
     let mut out = Text::new(alloc);
-    write_doc(alloc, &mut out, doc)?;
+    write_doc(&mut out, doc)?;
     Ok(Doc::Str(out))
 }
 
 #[cycle(tight)]
-fn write_doc(alloc: Global, out: &mut Text, doc: &Doc) -> Result<(), OutOfMemory>
+fn write_doc(out: &mut Text, doc: &Doc) -> Result<(), OutOfMemory>
     ensures { OnOk result (out.new ≡ out.old ++ tight_of doc.now) }
 {
     match doc {
         Doc::Items(items) => {
             out.push('[')?;
-            write_items(alloc, out, items.as_slice())?;
+            write_items(out, items.as_slice())?;
             out.push(']')
         }
         Doc::Fields(fields) => {
             out.push('{')?;
-            write_fields(alloc, out, fields.as_slice())?;
+            write_fields(out, fields.as_slice())?;
             out.push('}')
         }
         Doc::Null => out.push_ascii("null"),
-        Doc::Flag(_) => write_compact(alloc, out, doc),
-        Doc::Number(_) => write_compact(alloc, out, doc),
-        Doc::Str(_) => write_compact(alloc, out, doc),
+        Doc::Flag(_) => push_compact(out, doc),
+        Doc::Number(_) => push_compact(out, doc),
+        Doc::Str(_) => push_compact(out, doc),
     }
 }
 
 #[cycle(tight)]
-fn write_items(alloc: Global, out: &mut Text, items: &[Doc]) -> Result<(), OutOfMemory>
+fn write_items(out: &mut Text, items: &[Doc]) -> Result<(), OutOfMemory>
     ensures { OnOk result (out.new ≡ out.old ++ joined (codes ",") (map tight_of items.now)) }
 {
     let mut is_first = true;
@@ -51,14 +51,14 @@ fn write_items(alloc: Global, out: &mut Text, items: &[Doc]) -> Result<(), OutOf
         if !is_first {
             out.push(',')?;
         }
-        write_doc(alloc, out, item)?;
+        write_doc(out, item)?;
         is_first = false;
     }
     Ok(())
 }
 
 #[cycle(tight)]
-fn write_fields(alloc: Global, out: &mut Text, fields: &[Pair<Doc>]) -> Result<(), OutOfMemory>
+fn write_fields(out: &mut Text, fields: &[Pair<Doc>]) -> Result<(), OutOfMemory>
     ensures { OnOk result (out.new ≡ out.old ++ joined (codes ",") (map tight_pair fields.now)) }
 {
     let mut is_first = true;
@@ -66,25 +66,16 @@ fn write_fields(alloc: Global, out: &mut Text, fields: &[Pair<Doc>]) -> Result<(
         if !is_first {
             out.push(',')?;
         }
-        write_key(alloc, out, &field.key)?;
-        write_doc(alloc, out, &field.value)?;
+        write_key(out, &field.key)?;
+        write_doc(out, &field.value)?;
         is_first = false;
     }
     Ok(())
 }
 
-fn write_key(alloc: Global, out: &mut Text, key: &Text) -> Result<(), OutOfMemory>
+fn write_key(out: &mut Text, key: &Text) -> Result<(), OutOfMemory>
     ensures { OnOk result (out.new ≡ (out.old ++ compact_of (Str key.now)) ++ codes ":") }
 {
-    let key = Doc::Str(key.copy(alloc)?);
-    write_compact(alloc, out, &key)?;
+    push_quoted(out, key.as_str(), Layout::Compact)?;
     out.push(':')
-}
-
-/// Writes a value's compact text.
-fn write_compact(alloc: Global, out: &mut Text, doc: &Doc) -> Result<(), OutOfMemory>
-    ensures { OnOk result (out.new ≡ out.old ++ compact_of doc.now) }
-{
-    let text = compact(alloc, doc)?;
-    out.push_str(text.as_str())
 }

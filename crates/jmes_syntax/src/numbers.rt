@@ -7,6 +7,7 @@ ghost use Rattle.jmes_syntax.specs.Numbers.{whole_of, signed_at, number_at};
 ghost use Rattle.texts.specs.Calls.{Finds};
 
 use crate::Whole;
+use json_doc::capped_value;
 
 fn digits_len(bytes: &[u8]) -> usize
     ensures value { result ≡ prefix_len is_ascii_digit bytes.now }
@@ -19,37 +20,6 @@ fn digits_len(bytes: &[u8]) -> usize
         }
     }
     bytes.len()
-}
-
-// Sizes from here on are none within `i64`.
-const FAR: u128 = 100_000_000_000_000_000_000;
-
-// A number with one digit more, unless it is far already.
-fn with_digit(number: u128, digit: u8) -> u128
-    requires digit { digit < 10 }
-    requires room { number < 2 ^ 70 }
-    ensures near { number < 10 ^ 20 → result ≡ number * 10 + digit }
-    ensures far { 10 ^ 20 ≤ number → result ≡ number }
-    ensures small { result < 2 ^ 70 }
-{
-    if FAR <= number {
-        number
-    } else {
-        number * 10 + u128::from(digit)
-    }
-}
-
-// The value of digits, or a far one for a far one.
-fn capped_value(digits: &[u8]) -> u128
-    requires { AllDigits 10 digits.now }
-    ensures value { IsCapped result (digits_value 10 digits.now) }
-    ensures small { result < 2 ^ 70 }
-{
-    let mut value = 0;
-    for byte in digits {
-        value = with_digit(value, *byte - b'0');
-    }
-    value
 }
 
 // The number of this sign and size, where `i64` has it.

@@ -1,4 +1,4 @@
-ghost use Rattle.std.specs.Prelude.{◌≡◌, ◌≤◌, IfOk, encode_utf8_all};
+ghost use Rattle.std.specs.Prelude.{◌≡◌, ◌++◌, ◌≤◌, IfOk, OnOk, encode_utf8_all};
 ghost use Rattle.json_doc.specs.Compact.{compact_of};
 ghost use Rattle.json_doc.specs.Documents.{depth_of};
 ghost use Rattle.json_doc.specs.Grammar.{Reads};
@@ -30,4 +30,11 @@ pub fn indented(alloc: Global, doc: &Doc) -> Result<Text, OutOfMemory>
     let mut text = Text::new(alloc);
     write_doc(&mut text, doc, Layout::Indented, 0)?;
     Ok(text)
+}
+
+/// Puts the text of a document on one line, as `compact` gives it.
+pub fn push_compact(out: &mut Text, doc: &Doc) -> Result<(), OutOfMemory>
+    ensures { OnOk result (out.new ≡ out.old ++ compact_of doc.now) }
+{
+    write_doc(out, doc, Layout::Compact, 0)
 }

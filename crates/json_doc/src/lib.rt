@@ -2,6 +2,7 @@
 #![tactic(auto)]
 
 mod brackets;
+mod capped;
 mod copied;
 mod decimal;
 mod decimal_parts;
@@ -26,11 +27,14 @@ mod significand;
 mod stop;
 mod text_token;
 
+pub use capped::capped_value;
 pub use copied::copy;
 pub use decimal::Decimal;
 pub use doc::Doc;
-pub use document_text::{compact, indented};
+pub use document_text::{compact, indented, push_compact};
 pub use json_text::is_json_text;
+pub use layout::Layout;
+pub use quoted::push_quoted;
 pub use read_fault::ReadFault;
 pub use read_laws::{
     documents_are_json_texts, reading_is_grammar, reading_is_unique, texts_read_back,

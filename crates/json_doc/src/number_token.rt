@@ -11,6 +11,7 @@ ghost use Rattle.json_doc.specs.Trimmed.{IsCapped};
 ghost use Rattle.json_doc.specs.NumberParts.{exponent_of, number_of};
 
 use crate::Decimal;
+use crate::capped::capped_value;
 use crate::decimal_parts::decimal_of_parts;
 use crate::significand::Significand;
 use crate::stop::Stop;
@@ -147,37 +148,6 @@ fn number_at(bytes: &[u8]) -> Result<(NumberParts<'_>, &[u8]), Stop>
         },
         rest,
     ))
-}
-
-// An exponent from here on moves any digits that fit memory too far.
-const FAR: u128 = 100_000_000_000_000_000_000;
-
-// A number with one digit more, unless it is far already.
-fn with_digit(number: u128, digit: u8) -> u128
-    requires digit { digit < 10 }
-    requires room { number < 2 ^ 70 }
-    ensures near { number < 10 ^ 20 → result ≡ number * 10 + digit }
-    ensures far { 10 ^ 20 ≤ number → result ≡ number }
-    ensures small { result < 2 ^ 70 }
-{
-    if FAR <= number {
-        number
-    } else {
-        number * 10 + u128::from(digit)
-    }
-}
-
-// The value of an exponent's digits, or a far one for a far one.
-fn capped_value(digits: &[u8]) -> u128
-    requires { AllDigits 10 digits.now }
-    ensures value { IsCapped result (digits_value 10 digits.now) }
-    ensures small { result < 2 ^ 70 }
-{
-    let mut value = 0;
-    for b in digits {
-        value = with_digit(value, *b - b'0');
-    }
-    value
 }
 
 // The powers of ten by which an exponent raises and lowers a number.

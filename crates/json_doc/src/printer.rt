@@ -8,7 +8,7 @@ ghost use Rattle.json_doc.specs.Layouts.{text_at, before_part, after_parts, part
 
 use crate::decimal_text::write_decimal;
 use crate::layout::Layout;
-use crate::quoted::write_quoted;
+use crate::quoted::push_quoted;
 use crate::{Doc, OutOfMemory, Pair, Text};
 
 /// Writes a document that stands at a level of brackets.
@@ -26,7 +26,7 @@ pub(crate) fn write_doc(
         Doc::Null => out.push_str("null"),
         Doc::Flag(flag) => write_flag(out, *flag),
         Doc::Number(n) => write_decimal(out, *n),
-        Doc::Str(text) => write_quoted(out, text.as_str(), layout),
+        Doc::Str(text) => push_quoted(out, text.as_str(), layout),
         Doc::Items(items) => {
             out.push('[')?;
             write_items(out, items.as_slice(), layout, level)?;
@@ -96,7 +96,7 @@ fn write_key(out: &mut Text, key: &Text, layout: Layout) -> Result<(), OutOfMemo
     ensures text { OnOk result (out.new ≡ out.old ++ key_text layout key.now) }
     ensures key { IsText key.now }
 {
-    write_quoted(out, key.as_str(), layout)?;
+    push_quoted(out, key.as_str(), layout)?;
     out.push_str(": ")
 }
 

@@ -9,8 +9,9 @@ ghost use Rattle.json_doc.specs.Plain.{is_plain};
 use crate::layout::Layout;
 use crate::{OutOfMemory, Text};
 
-/// Writes a text in quotation marks: runs of plain characters at once, the others one by one.
-pub(crate) fn write_quoted(out: &mut Text, text: &str, layout: Layout) -> Result<(), OutOfMemory>
+/// Writes a text in quotation marks, as it stands in a document of that layout: runs of plain characters
+/// at once, the others one by one.
+pub fn push_quoted(out: &mut Text, text: &str, layout: Layout) -> Result<(), OutOfMemory>
     ensures { OnOk result (out.new ≡ out.old ++ quoted layout (chars text.now)) }
 {
     out.push('"')?;

@@ -12,8 +12,8 @@ mod waiters;
 
 pub use characters::{chars_of, text_of};
 pub use fault::{ModelFault, Place, inside, move_below};
-pub use names::command_name;
-pub use paginators::{PagerRow, Paginators};
+pub use names::{Stage, command_name};
+pub use paginators::{NamedRow, PagerRow, Paginators};
 pub use reading::{
     ascii_text, copied, flag_at, is_true_at, items, maybe_object, maybe_text, maybe_texts, missing,
     missing_below, move_to, needed, object, object_at, text, text_at, wrong, wrong_kind,

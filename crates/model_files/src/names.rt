@@ -83,7 +83,7 @@ fn capitals_start(chars: &[char]) -> usize
 
 /// Where a walk over a name is.
 #[derive(Clone, Copy, PartialEq, Eq)]
-enum Stage {
+pub enum Stage {
     /// Before any character.
     Free,
     /// At the capital of a word behind a `-`.

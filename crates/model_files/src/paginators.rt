@@ -34,7 +34,7 @@ pub struct PagerRow {
 
 /// A row and the name of its operation.
 #[derive(Debug, Drop)]
-struct NamedRow {
+pub struct NamedRow {
     operation: Text,
     row: PagerRow,
 }

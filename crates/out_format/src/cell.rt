@@ -6,7 +6,7 @@ use json_doc::Text;
 
 /// A cell of a line of text or of a row of a table.
 #[derive(Debug, Drop)]
-pub(crate) enum Cell {
+pub enum Cell {
     Empty,
     /// The key of a column, or the key of the member in which the line stands.
     Key(Text),

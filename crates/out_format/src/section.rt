@@ -10,7 +10,7 @@ use std::alloc::Global;
 /// A part of a table: the path of what it shows, perhaps the keys of its columns, and its rows. A
 /// row that is shorter than others ends in empty cells.
 #[derive(Debug, Drop)]
-pub(crate) struct Section {
+pub struct Section {
     pub path: Text,
     pub header: Option<List<Cell>>,
     pub rows: List<List<Cell>>,

@@ -9,7 +9,7 @@ use Rattle.resp_parser.specs.declared.body_fault.BodyFault.TheVariants as body
 use Rattle.resp_parser.specs.declared.fault.ReplyFault.{ReplyFault}
 use Rattle.resp_parser.specs.declared.fault.ReplyFault.TheVariants.{OutOfMemory as no_memory}
 use Rattle.resp_parser.specs.declared.fault.ReplyFault.TheVariants as fault
-use Rattle.resp_parser.specs.Ends.{EndsBy, IsFailure, IsTold}
+use Rattle.resp_parser.specs.Inside.{EndsBy, IsFailure, IsTold}
 use Rattle.resp_parser.specs.Parsed.{IsParsed, IsParsedHead, Told, failed, is_coded, told}
 use Rattle.resp_parser.specs.Paths.{Path}
 use Rattle.resp_parser.specs.Steps.{Comes, Step}

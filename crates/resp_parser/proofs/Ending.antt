@@ -2,7 +2,7 @@
 use Rattle.std.proofs.Common.{◌≡◌, ◌++◌, List, Option, None, Some, Result, Ok, Err, refl, sym, ap, subst, ◌∙◌}
 use Rattle.resp_parser.specs.declared.body_fault.BodyFault.{BodyFault}
 use Rattle.resp_parser.specs.declared.body_fault.BodyFault.TheVariants.{At, OutOfMemory}
-use Rattle.resp_parser.specs.Ends.{Ends, EndsBy, IsBelow}
+use Rattle.resp_parser.specs.Inside.{Ends, EndsBy, IsBelow}
 use Rattle.resp_parser.specs.Paths.{Path, unless}
 use Rattle.resp_parser.specs.Steps.{Step}
 

@@ -5,7 +5,7 @@ use Rattle.service_model.specs.declared.shape.Member.{Member}
 use Rattle.texts.specs.declared.pairs.Pair.{Pair}
 use Rattle.texts.specs.Keys.{keys, value_at, IsDistinct, IsNew}
 use Rattle.resp_parser.specs.Kept.{with_values}
-use Rattle.resp_parser.specs.Values.{values_of}
+use Rattle.resp_parser.specs.Inside.{values_of}
 
 module _ {X Y : Type 0} (f : X → Y) where
   either : (b : Bool) (x : X) (o : Option X) (p : Option Y) → p ≡ option_map f o → (if b then Some (f x) else p) ≡ option_map f (if b then Some x else o)

@@ -17,7 +17,7 @@ use Rattle.resp_parser.specs.Headers.{unless_null}
 use Rattle.resp_parser.specs.Kept.{Keep, entry_of, kept_of, known_members, pair_of, with_values}
 use Rattle.resp_parser.specs.Kinds.{is_null, is_null_view, passes}
 use Rattle.resp_parser.specs.Paths.{Path, first_of, to_name, under}
-use Rattle.resp_parser.specs.Values.{there, values_of}
+use Rattle.resp_parser.specs.Inside.{there, values_of}
 use Rattle.resp_parser.proofs.Due.{judged}
 use Rattle.resp_parser.proofs.Keyed.{at-with}
 use Rattle.resp_parser.proofs.Names.{next-drop}

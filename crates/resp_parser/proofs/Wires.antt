@@ -8,7 +8,7 @@ use Rattle.std.proofs.lemmas.Slice.Eq.{bytes_eq-Decides}
 use Rattle.service_model.specs.declared.shape.Member.{Member}
 use Rattle.texts.specs.declared.pairs.Pair.{Pair}
 use Rattle.texts.specs.Keys.{keys, value_at, IsDistinct, IsNew}
-use Rattle.resp_parser.specs.Values.{put_at, values_of, wires_in}
+use Rattle.resp_parser.specs.Inside.{put_at, values_of, wires_in}
 
 -- ---- places
 

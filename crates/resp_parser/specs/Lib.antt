@@ -1,9 +1,9 @@
 pub mod Bodies
-pub mod Ends
 pub mod Errors
 pub mod FaultTexts
 pub mod FirstFault
 pub mod Headers
+pub mod Inside
 pub mod Kept
 pub mod Kinds
 pub mod Laws
@@ -11,4 +11,3 @@ pub mod Members
 pub mod Parsed
 pub mod Paths
 pub mod Steps
-pub mod Values

@@ -2,7 +2,7 @@
 ghost use Rattle.std.specs.Prelude.{◌≡◌, ◌||◌, if◌then◌else◌, ℕ, List, [], Option, Some, None, IfOk};
 ghost use Rattle.json_doc.specs.declared.doc.Doc as doc;
 ghost use Rattle.resp_parser.specs.Bodies.{DocumentOf, IsPayload, JsonPayload, ObjectBody, TextOf, or_whole, string_if};
-ghost use Rattle.resp_parser.specs.Ends.{EndsBy};
+ghost use Rattle.resp_parser.specs.Inside.{EndsBy};
 ghost use Rattle.resp_parser.specs.Kinds.{is_map, is_structure};
 
 use crate::body_fault::BodyFault;

@@ -4,7 +4,7 @@ ghost use Rattle.std.specs.Str.{chars};
 ghost use Rattle.json_doc.specs.declared.doc.Doc as doc;
 ghost use Rattle.aws_world.specs.Headers.{header_of};
 ghost use Rattle.texts.specs.Blanks.{trimmed};
-ghost use Rattle.resp_parser.specs.Ends.{EndsBy};
+ghost use Rattle.resp_parser.specs.Inside.{EndsBy};
 ghost use Rattle.resp_parser.specs.Headers.{Decodes, HeaderValue, IsHeaderText, IsNumberOr, JsonHeader, headers_behind, parts_of, rest_behind, whole_of, with_first};
 ghost use Rattle.resp_parser.specs.Kept.{pair_of};
 ghost use Rattle.base64.specs.GeneralPurpose.{decode_of};

@@ -3,7 +3,7 @@ ghost use Rattle.std.specs.Prelude.{◌≡◌, ◌<◌, length, map, Some, false
 ghost use Rattle.json_doc.specs.declared.doc.Doc as doc;
 ghost use Rattle.json_doc.specs.declared.doc.Doc.TheOpen.{Doc-F};
 ghost use Rattle.service_model.specs.Kept.{HasOwnNames, IsShape, TellsWires};
-ghost use Rattle.resp_parser.specs.Ends.{Ends};
+ghost use Rattle.resp_parser.specs.Inside.{Ends};
 ghost use Rattle.resp_parser.specs.FirstFault.{entries_fault, fault_of, items_fault, judge_of, kind_fault, members_fault};
 ghost use Rattle.resp_parser.specs.Kept.{inside_kept, kept_of, known_members, with_values};
 ghost use Rattle.resp_parser.specs.Kinds.{passes};

@@ -2,7 +2,7 @@
 ghost use Rattle.std.specs.Prelude.{◌≡◌, ◌<◌, ◌++◌, length, pos, Contains, IfSome, OnOk, option_copied};
 ghost use Rattle.service_model.specs.Kept.{HasOwnNames, IsShape, TellsWires};
 ghost use Rattle.texts.specs.Keys.{keys, IsNew};
-ghost use Rattle.resp_parser.specs.Ends.{Ends, EndsBy};
+ghost use Rattle.resp_parser.specs.Inside.{Ends, EndsBy};
 ghost use Rattle.resp_parser.specs.Headers.{IsNumber};
 ghost use Rattle.resp_parser.specs.Members.{AreMembers, PlacedValue, entry_for, RestBody, body_value, is_read, member_named};
 

@@ -4,7 +4,7 @@ ghost use Rattle.json_doc.specs.declared.doc.Doc.{Doc as Document};
 ghost use Rattle.service_model.specs.Kept.{IsOperation};
 ghost use Rattle.resp_parser.specs.declared.fault.ReplyFault.{ReplyFault as Fault};
 ghost use Rattle.resp_parser.specs.declared.fault.ReplyFault.TheVariants.{OutOfMemory as no_memory};
-ghost use Rattle.resp_parser.specs.Ends.{EndsBy, IsFailure, IsTold};
+ghost use Rattle.resp_parser.specs.Inside.{EndsBy, IsFailure, IsTold};
 ghost use Rattle.resp_parser.specs.Parsed.{HeadBy, IsParsed, IsParsedHead, OutputBy, OutputOf, RestOutput, is_coded};
 ghost use Rattle.resp_parser.specs.Steps.{Comes};
 

@@ -1,7 +1,7 @@
 //! Paths of faults, made from the inside out: a path takes memory only where there is a fault.
 ghost use Rattle.std.specs.Prelude.{◌≡◌, ◌++◌, [], IfOk, MatchResult};
 ghost use Rattle.resp_parser.specs.declared.body_fault.BodyFault.TheVariants as fault;
-ghost use Rattle.resp_parser.specs.Ends.{IsBelow};
+ghost use Rattle.resp_parser.specs.Inside.{IsBelow};
 ghost use Rattle.resp_parser.specs.Paths.{shown, to_item, to_name};
 
 use crate::body_fault::BodyFault;

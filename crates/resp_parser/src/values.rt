@@ -4,7 +4,7 @@ ghost use Rattle.std.specs.Prelude.{◌≡◌, ◌<◌, ◌≤◌, [], length, s
 ghost use Rattle.service_model.specs.Kept.{TellsWires};
 ghost use Rattle.texts.specs.Keys.{keys, value_at, IsDistinct, IsNew};
 ghost use Rattle.resp_parser.specs.Kept.{is_sent};
-ghost use Rattle.resp_parser.specs.Values.{put_at, there, values_of, wires_in};
+ghost use Rattle.resp_parser.specs.Inside.{put_at, there, values_of, wires_in};
 
 use crate::kinds::is_null;
 use json_doc::{Doc, OutOfMemory, Pair, Pairs, Text, copy};

@@ -5,7 +5,7 @@ use Rattle.json_doc.specs.declared.doc.Doc.{Doc}
 use Rattle.json_doc.specs.declared.doc.Doc.TheVariants.{Fields}
 use Rattle.texts.specs.declared.pairs.Pair.{Pair}
 use Rattle.texts.specs.Keys.{value_at}
-use Rattle.rule_sets.specs.declared.judging.Kind.TheVariants as kind
+use Rattle.rule_sets.specs.declared.judging.RuleKind.TheVariants as kind
 use Rattle.rule_sets.specs.BadRules.{counted_step, kind_of, leaves_in, leaves_of_rule, rule_leaves, tree_leaves}
 use Rattle.rule_sets.specs.Trees.{told}
 use Rattle.rule_sets.proofs.Tales.{parts_same, told_at, told_field, told_fields}

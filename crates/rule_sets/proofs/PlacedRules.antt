@@ -14,8 +14,8 @@ use Rattle.rule_terms.specs.declared.template.Piece.{Piece}
 use Rattle.rule_terms.specs.declared.template.Piece.TheVariants.{Char, Named}
 use Rattle.rule_terms.specs.Functions.{arity_of, function_named}
 use Rattle.rule_terms.specs.Templates.{name_in, pieces_of}
-use Rattle.rule_sets.specs.declared.judging.Kind.{Kind}
-use Rattle.rule_sets.specs.declared.judging.Kind.TheVariants as kind
+use Rattle.rule_sets.specs.declared.judging.RuleKind.{RuleKind}
+use Rattle.rule_sets.specs.declared.judging.RuleKind.TheVariants as kind
 use Rattle.rule_sets.specs.BadPlaces.{Judged, bad, each_field, each_item, fine, fine_if, has_key}
 use Rattle.rule_sets.specs.BadRules.{ArgumentTale, RuleTale, answer_key, any_flag, any_text, argument_step, conditions_in, function_in, has_answer, has_endpoint, is_flag_in, is_list_in, is_scheme_text, is_text_or_flag_in, is_type, judged_answer, judged_answer_at, judged_argument, judged_argument_in, judged_arguments_in, judged_call_of, judged_call_part, judged_condition, judged_condition_part, judged_conditions, judged_conditions_from, judged_default, judged_endpoint, judged_endpoint_part, judged_function, judged_kind, judged_list, judged_list_in, judged_name, judged_number, judged_parameter, judged_parameter_part, judged_parameters, judged_part, judged_piece, judged_pieces, judged_properties, judged_property, judged_reference, judged_rule_in, judged_rule_part, judged_rules, judged_scheme, judged_scheme_part, judged_scheme_text, judged_schemes, judged_template, judged_text, judged_texts, judged_texts_step, judged_tree, judged_wanted, kind_named, kind_of, leaves_in, may_be_text, rule_step}
 use Rattle.rule_sets.specs.Names.{Known, is_known, parameter_names, with_condition, with_conditions}
@@ -258,7 +258,7 @@ has_endpoint-placed : (o : Option Doc) → IsPlaced (has_endpoint o)
 has_endpoint-placed None = refl
 has_endpoint-placed (Some d) = tt
 
-has_answer-placed : (of_kind : Option Kind) (ps : List (Pair Doc)) → IsPlaced (has_answer of_kind ps)
+has_answer-placed : (of_kind : Option RuleKind) (ps : List (Pair Doc)) → IsPlaced (has_answer of_kind ps)
 has_answer-placed None ps = tt
 has_answer-placed (Some kind.Endpoint) ps = has_endpoint-placed (value_at (codes "endpoint") ps)
 has_answer-placed (Some kind.Error) ps = placed-key (codes "error") ps
@@ -270,16 +270,16 @@ GoodRule d = ((known : Known) → IsPlaced ((told rule_step d).tale.rule known))
 abbrev Rule : Type 0
 Rule = (d : Doc) × GoodRule d
 
-placed-answer : (of_kind : Kind) (known : Known) (e : Rule) → IsPlaced (judged_answer of_kind known (told rule_step e.0))
+placed-answer : (of_kind : RuleKind) (known : Known) (e : Rule) → IsPlaced (judged_answer of_kind known (told rule_step e.0))
 placed-answer kind.Endpoint known e = placed-endpoint known (told rule_step e.0).part
 placed-answer kind.Error known e = placed-wanted known (told rule_step e.0).part
 placed-answer kind.Tree known e = e.1.1 known
 
-placed-answer_at : (of_kind : Option Kind) (known : Known) (key : List ℕ) (e : Rule) → IsPlaced (judged_answer_at of_kind known key (told rule_step e.0))
+placed-answer_at : (of_kind : Option RuleKind) (known : Known) (key : List ℕ) (e : Rule) → IsPlaced (judged_answer_at of_kind known key (told rule_step e.0))
 placed-answer_at None known key e = tt
 placed-answer_at (Some k) known key e = placed-if (bytes_eq key (answer_key k)) (judged_answer k known (told rule_step e.0)) fine (placed-answer k known e) tt
 
-placed-rule_part : (of_kind : Option Kind) (conditions : List Doc) (known : Known) (key : List ℕ) (e : Rule)
+placed-rule_part : (of_kind : Option RuleKind) (conditions : List Doc) (known : Known) (key : List ℕ) (e : Rule)
     → IsPlaced (judged_rule_part of_kind conditions known key (told rule_step e.0))
 placed-rule_part of_kind conditions known key e =
     placed-if (bytes_eq key (codes "type")) (judged_kind (told rule_step e.0).part) (if bytes_eq key (codes "conditions") then (judged_conditions known (told rule_step e.0).part) else (judged_answer_at of_kind (with_conditions conditions known) key (told rule_step e.0))) (placed-judged_text (λ name. is_some (kind_named name)) (told rule_step e.0).part) (placed-if (bytes_eq key (codes "conditions")) (judged_conditions known (told rule_step e.0).part) (judged_answer_at of_kind (with_conditions conditions known) key (told rule_step e.0)) (placed-conditions known (told rule_step e.0).part) (placed-answer_at of_kind (with_conditions conditions known) key e))

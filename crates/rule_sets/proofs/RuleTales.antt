@@ -8,8 +8,8 @@ use Rattle.texts.specs.Calls.{◌>>=◌}
 use Rattle.texts.specs.Keys.{value_at}
 use Rattle.model_files.specs.declared.fault.ModelFault.{ModelFault}
 use Rattle.model_files.specs.Reading.{fields_of}
-use Rattle.rule_sets.specs.declared.judging.Kind.{Kind}
-use Rattle.rule_sets.specs.declared.judging.Kind.TheVariants as kind
+use Rattle.rule_sets.specs.declared.judging.RuleKind.{RuleKind}
+use Rattle.rule_sets.specs.declared.judging.RuleKind.TheVariants as kind
 use Rattle.rule_sets.specs.BadPlaces.{Judged, fine, first_bad, has_key, each_field, each_item}
 use Rattle.rule_sets.specs.BadRules.{conditions_in, has_answer, judged_answer, judged_answer_at, judged_conditions, judged_endpoint, judged_kind, judged_list, judged_part, judged_rule, judged_rule_of, judged_rule_part, judged_rule_with, judged_rules, judged_wanted, kind_of, rule_step}
 use Rattle.rule_sets.specs.Names.{Known, parameter_names, with_conditions}
@@ -27,7 +27,7 @@ rule-Fields known ps =
     ∙ ap (λ judged. first_bad (has_key (codes "type") ps ∷ has_answer (kind_of ps) ps ∷ judged ∷ [])) (each_field_told rule_step (judged_rule_part (kind_of ps) (conditions_in ps) known) ps)
 
 -- a rule that has what it needs
-pub rule-parts : (of_kind : Option Kind) (conditions : List Doc) (known : Known) (ps : List (Pair Doc))
+pub rule-parts : (of_kind : Option RuleKind) (conditions : List Doc) (known : Known) (ps : List (Pair Doc))
     → has_key (codes "type") ps ≡ fine → has_answer of_kind ps ≡ fine → of_kind ≡ kind_of ps → conditions ≡ conditions_in ps
     → judged_rule_of known ps ≡ each_field (λ (key : List ℕ) (d : Doc). judged_rule_part of_kind conditions known key (told rule_step d)) ps
 rule-parts of_kind conditions known ps typed answered is are =
@@ -36,7 +36,7 @@ rule-parts of_kind conditions known ps typed answered is are =
     ∙ behind_two (has_key (codes "type") ps) (has_answer of_kind ps) (each_field (λ (key : List ℕ) (d : Doc). judged_rule_part of_kind conditions known key (told rule_step d)) ps) typed answered
 
 -- what a part of a rule is judged as, by its key
-module _ (of_kind : Option Kind) (conditions : List Doc) (known : Known) (key : List ℕ) (d : Doc) where
+module _ (of_kind : Option RuleKind) (conditions : List Doc) (known : Known) (key : List ℕ) (d : Doc) where
   abbrev behind_type : Judged
   behind_type =
       if bytes_eq key (codes "conditions") then judged_conditions known (told rule_step d).part else
@@ -53,7 +53,7 @@ module _ (of_kind : Option Kind) (conditions : List Doc) (known : Known) (key : 
       ∙ ap (judged_conditions known) (part_same rule_step d)
 
 -- what a rule answers with is judged by the rule's kind
-module _ (of_kind : Kind) (known : Known) (d : Doc) where
+module _ (of_kind : RuleKind) (known : Known) (d : Doc) where
   pub answer-endpoint : of_kind ≡ kind.Endpoint → judged_answer of_kind known (told rule_step d) ≡ judged_endpoint known d
   answer-endpoint is = ap (λ k. judged_answer k known (told rule_step d)) is ∙ ap (judged_endpoint known) (part_same rule_step d)
 

@@ -19,8 +19,8 @@ use Rattle.rule_terms.specs.declared.template.Piece.TheVariants.{Char, Named}
 use Rattle.rule_terms.specs.Functions.{function_named, arity_of}
 use Rattle.rule_terms.specs.Seen.{text_in, or_empty, items_kind}
 use Rattle.rule_terms.specs.Templates.{pieces_of, name_in}
-use Rattle.rule_sets.specs.declared.judging.Kind.{Kind}
-use Rattle.rule_sets.specs.declared.judging.Kind.TheVariants as kind
+use Rattle.rule_sets.specs.declared.judging.RuleKind.{RuleKind}
+use Rattle.rule_sets.specs.declared.judging.RuleKind.TheVariants as kind
 use Rattle.rule_sets.specs.BadPlaces.{Judged, fine, bad, fine_if, first_of, first_bad, has_key, each_field, each_item}
 use Rattle.rule_sets.specs.Names.{Known, is_known, with_condition, with_conditions, parameter_names}
 use Rattle.rule_sets.specs.Trees.{Told, pair_of_part, told, tale_of}
@@ -259,17 +259,17 @@ judged_endpoint known doc = do
 
 -- Rules.
 
-abbrev pub kind_named : List ℕ → Option Kind
+abbrev pub kind_named : List ℕ → Option RuleKind
 kind_named name =
     if bytes_eq name (codes "endpoint") then Some kind.Endpoint else
     if bytes_eq name (codes "error") then Some kind.Error else
     if bytes_eq name (codes "tree") then Some kind.Tree else None
 
-abbrev pub kind_of : List (Pair Doc) → Option Kind
+abbrev pub kind_of : List (Pair Doc) → Option RuleKind
 kind_of ps = option_and_then kind_named (text_in (value_at (codes "type") ps))
 
 -- the key of what a rule of a kind answers with
-abbrev pub answer_key : Kind → List ℕ
+abbrev pub answer_key : RuleKind → List ℕ
 answer_key kind.Endpoint = codes "endpoint"
 answer_key kind.Error = codes "error"
 answer_key kind.Tree = codes "rules"
@@ -279,7 +279,7 @@ has_endpoint None = Err (Missing (below (codes "endpoint") (At (codes "url"))))
 has_endpoint (Some doc) = fine
 
 -- what the type of a rule names; an endpoint lacks its URL where it is absent itself
-abbrev pub has_answer : Option Kind → List (Pair Doc) → Judged
+abbrev pub has_answer : Option RuleKind → List (Pair Doc) → Judged
 has_answer None ps = fine
 has_answer (Some kind.Endpoint) ps = has_endpoint (value_at (codes "endpoint") ps)
 has_answer (Some kind.Error) ps = has_key (codes "error") ps
@@ -291,12 +291,12 @@ pub record RuleTale : Type 0 where
   pub rules : Known → Judged
 
 -- what a rule of a kind answers with
-abbrev pub judged_answer : Kind → Known → Told RuleTale → Judged
+abbrev pub judged_answer : RuleKind → Known → Told RuleTale → Judged
 judged_answer kind.Endpoint known told = judged_endpoint known told.part
 judged_answer kind.Error known told = judged_wanted known told.part
 judged_answer kind.Tree known told = told.tale.rules known
 
-abbrev pub judged_answer_at : Option Kind → Known → List ℕ → Told RuleTale → Judged
+abbrev pub judged_answer_at : Option RuleKind → Known → List ℕ → Told RuleTale → Judged
 judged_answer_at None known key told = fine
 judged_answer_at (Some k) known key told = if bytes_eq key (answer_key k) then judged_answer k known told else fine
 
@@ -304,7 +304,7 @@ abbrev pub judged_kind : Doc → Judged
 judged_kind doc = judged_text (λ name. is_some (kind_named name)) doc
 
 -- a part of a rule with these conditions; its answer sees the names that they assign
-abbrev pub judged_rule_part : Option Kind → List Doc → Known → List ℕ → Told RuleTale → Judged
+abbrev pub judged_rule_part : Option RuleKind → List Doc → Known → List ℕ → Told RuleTale → Judged
 judged_rule_part of_kind conditions known key told =
     if bytes_eq key (codes "type") then judged_kind told.part else
     if bytes_eq key (codes "conditions") then judged_conditions known told.part else
@@ -358,7 +358,7 @@ abbrev pub tree_leaves : Option (Told Counted) → ℕ
 tree_leaves None = 0
 tree_leaves (Some rules) = rules.tale.rules
 
-abbrev pub rule_leaves : Option Kind → List (Pair (Told Counted)) → ℕ
+abbrev pub rule_leaves : Option RuleKind → List (Pair (Told Counted)) → ℕ
 rule_leaves None ps = 0
 rule_leaves (Some kind.Endpoint) ps = 1
 rule_leaves (Some kind.Error) ps = 1

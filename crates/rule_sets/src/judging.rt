@@ -23,22 +23,22 @@ use texts::{List, OutOfMemory, Pair, Pairs, Text};
 
 /// What a rule answers with.
 #[derive(Clone, Copy, Debug, PartialEq, Eq)]
-enum Kind {
+pub enum RuleKind {
     Endpoint,
     Error,
     Tree,
 }
 
-impl Kind {
+impl RuleKind {
     /// The key of what a rule of this kind answers with.
     fn key(self) -> &'static str
         ensures value { result.now ≡ answer_key self }
         ensures ascii { IsTrue (is_ascii_text result.now) }
     {
         match self {
-            Kind::Endpoint => "endpoint",
-            Kind::Error => "error",
-            Kind::Tree => "rules",
+            RuleKind::Endpoint => "endpoint",
+            RuleKind::Error => "error",
+            RuleKind::Tree => "rules",
         }
     }
 }
@@ -198,17 +198,17 @@ fn leaves_of_fields(fields: &Pairs<Doc>) -> usize
     ensures { result ≡ min (leaves_of_rule (doc_of.Fields fields.now)) (2 ^ 64 - 1) }
 {
     match kind_of(fields) {
-        Some(Kind::Tree) => match fields.get("rules") {
+        Some(RuleKind::Tree) => match fields.get("rules") {
             Some(rules) => leaves_in(rules),
             None => 0,
         },
-        Some(Kind::Endpoint) => 1,
-        Some(Kind::Error) => 1,
+        Some(RuleKind::Endpoint) => 1,
+        Some(RuleKind::Error) => 1,
         None => 0,
     }
 }
 
-fn kind_of(fields: &Pairs<Doc>) -> Option<Kind>
+fn kind_of(fields: &Pairs<Doc>) -> Option<RuleKind>
     ensures { result ≡ kind_of fields.now }
 {
     match fields.get("type") {
@@ -217,17 +217,17 @@ fn kind_of(fields: &Pairs<Doc>) -> Option<Kind>
     }
 }
 
-fn kind_named(name: &Text) -> Option<Kind>
+fn kind_named(name: &Text) -> Option<RuleKind>
     ensures { result ≡ kind_named name.now }
 {
     if name.is("endpoint") {
-        return Some(Kind::Endpoint);
+        return Some(RuleKind::Endpoint);
     }
     if name.is("error") {
-        return Some(Kind::Error);
+        return Some(RuleKind::Error);
     }
     if name.is("tree") {
-        return Some(Kind::Tree);
+        return Some(RuleKind::Tree);
     }
     None
 }
@@ -287,7 +287,7 @@ fn judge_rule_fields(
 fn judge_rule_parts(
     alloc: Global,
     names: &mut Names,
-    kind: Option<Kind>,
+    kind: Option<RuleKind>,
     conditions: &[Doc],
     fields: &Pairs<Doc>,
 ) -> Result<(), ModelFault>
@@ -306,7 +306,7 @@ fn judge_rule_parts(
 fn judge_rule_part(
     alloc: Global,
     names: &mut Names,
-    kind: Option<Kind>,
+    kind: Option<RuleKind>,
     conditions: &[Doc],
     field: &Pair<Doc>,
 ) -> Result<(), ModelFault>
@@ -333,7 +333,7 @@ fn judge_rule_part(
 fn judge_answer(
     alloc: Global,
     names: &mut Names,
-    kind: Kind,
+    kind: RuleKind,
     conditions: &[Doc],
     doc: &Doc,
 ) -> Result<(), ModelFault>
@@ -348,14 +348,19 @@ fn judge_answer(
 }
 
 #[cycle(judging)]
-fn judge_by_kind(alloc: Global, names: &mut Names, kind: Kind, doc: &Doc) -> Result<(), ModelFault>
+fn judge_by_kind(
+    alloc: Global,
+    names: &mut Names,
+    kind: RuleKind,
+    doc: &Doc,
+) -> Result<(), ModelFault>
     ensures judged { Judges result (judged_answer kind names.old (told rule_step doc.now)) }
     ensures kept { OnOk result (names.new ≡ names.old) }
 {
     match kind {
-        Kind::Endpoint => judge_endpoint(alloc, names, doc),
-        Kind::Error => judge_wanted(alloc, names, doc),
-        Kind::Tree => judge_list(alloc, names, doc),
+        RuleKind::Endpoint => judge_endpoint(alloc, names, doc),
+        RuleKind::Error => judge_wanted(alloc, names, doc),
+        RuleKind::Tree => judge_list(alloc, names, doc),
     }
 }
 
@@ -370,11 +375,15 @@ fn add_all(alloc: Global, names: &mut Names, conditions: &[Doc]) -> Result<(), O
 }
 
 /// A rule has what its type names.
-fn judge_needed(alloc: Global, kind: Option<Kind>, fields: &Pairs<Doc>) -> Result<(), ModelFault>
+fn judge_needed(
+    alloc: Global,
+    kind: Option<RuleKind>,
+    fields: &Pairs<Doc>,
+) -> Result<(), ModelFault>
     ensures { Judges result (has_answer kind fields.now) }
 {
     match kind {
-        Some(Kind::Endpoint) if fields.get("endpoint").is_none() => {
+        Some(RuleKind::Endpoint) if fields.get("endpoint").is_none() => {
             Err(missing_below(alloc, "endpoint", "url"))
         }
         Some(kind) => need(alloc, fields, kind.key()),

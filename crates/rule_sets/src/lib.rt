@@ -12,6 +12,7 @@ mod reading;
 mod rule_set;
 
 pub use fault::RuleFault;
+pub use judging::RuleKind;
 pub use laws::{partitions_have_outcome, rules_have_outcome};
-pub use partitions::Partitions;
+pub use partitions::{Partition, Partitions};
 pub use rule_set::{Answer, Condition, Leaf, MOST_LEAVES, Parameter, RuleSet};

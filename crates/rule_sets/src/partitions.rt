@@ -22,7 +22,7 @@ const USUAL: &str = "aws";
 
 /// One of the partitions of AWS.
 #[derive(Debug, Drop)]
-struct Partition {
+pub struct Partition {
     id: Text,
     pattern: List<Part>,
     /// The regions that it lists.

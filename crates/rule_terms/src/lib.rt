@@ -18,4 +18,4 @@ pub use function::Function;
 pub use pattern::{Part, fits, pattern_of};
 pub use properties::{put, put_text};
 pub use seen::{copied_text, items_at, text_at, text_or_empty};
-pub use template::{Piece, name_and_path, pieces_of};
+pub use template::{Piece, Stand, name_and_path, pieces_of};

@@ -17,7 +17,7 @@ pub enum Piece {
 
 /// What is held back where a piece isn't known yet.
 #[derive(Debug, Drop)]
-enum Stand {
+pub enum Stand {
     /// Nothing.
     Plain,
     /// An opening brace and these words.

@@ -11,7 +11,7 @@ use value_texts::{Slot, text_at, value_of};
 
 /// Where the labels of a template stand.
 #[derive(Clone, Copy, Debug, PartialEq, Eq)]
-pub(crate) enum Labelled {
+pub enum Labelled {
     Path,
     Host,
 }

@@ -17,6 +17,7 @@ mod request;
 mod tokens;
 
 pub use encode_fault::EncodeFault;
+pub use labels::Labelled;
 pub use laws::{
     headers_are_clean, labels_stay_in_place, parameters_stay_in_place, paths_have_no_query,
     values_have_outcome,

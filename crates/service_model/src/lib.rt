@@ -22,12 +22,19 @@ mod shape;
 mod shapes;
 mod signing;
 
+pub use arguments::Argument;
+pub use labelled::LabelUse;
 pub use laws::members_have_named_shapes;
-pub use metadata::{Metadata, Protocol};
-pub use model::Model;
+pub use members::Roles;
+pub use metadata::{Described, Metadata, Protocol};
+pub use model::{Model, Table};
 pub use model_files::{
     Acceptor, Matcher, ModelFault, PagerRow, Paginators, Place, State, WaiterRow, Waiters,
     command_name,
 };
+pub use numbering::Outline;
 pub use operation::{Operation, Refusal};
+pub use operations::Row;
 pub use shape::{Kind, Location, Member, Shape, ShapeId, TimeForm};
+pub use shapes::Structure;
+pub use signing::Signing;

@@ -86,7 +86,7 @@ fn wire_name(alloc: Global, wire: Option<&Text>, own: &Text) -> Result<Text, Out
 
 /// What a member is used for beside its value.
 #[derive(Drop)]
-struct Roles {
+pub struct Roles {
     token: bool,
     json_value: bool,
     host_label: bool,

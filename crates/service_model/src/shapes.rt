@@ -114,7 +114,7 @@ fn read_kind(alloc: Global, fields: &Pairs<Doc>) -> Result<Kind, ModelFault>
 
 /// What only structures have; a shape of another kind has nothing of it.
 #[derive(Drop)]
-struct Structure {
+pub struct Structure {
     members: List<Member>,
     required: List<Text>,
     payload: Option<Text>,

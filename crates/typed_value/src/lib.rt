@@ -26,4 +26,5 @@ pub use laws::{fits_without_faults, read_values_fit, table_is_of_one_value};
 pub use lines::{fault_line, report};
 pub use typed::{Entries, Typed};
 pub use validation::validate;
+pub use wanted::Wanted;
 pub use wire::{from_wire, to_doc};

@@ -6,7 +6,7 @@ use service_model::{Location, Member, ShapeId};
 
 /// What is wanted of a value: the shape, and whether it stands in a header that holds a document.
 #[derive(Clone, Copy, Debug)]
-pub(crate) struct Wanted {
+pub struct Wanted {
     pub(crate) shape: ShapeId,
     pub(crate) is_json: bool,
 }

@@ -18,7 +18,7 @@ use typed_value::Typed;
 
 /// Where the value of a member stands.
 #[derive(Clone, Copy, Debug)]
-pub(crate) struct Spot {
+pub struct Spot {
     /// The place among the fields.
     pub(crate) at: usize,
     pub(crate) slot: Slot,

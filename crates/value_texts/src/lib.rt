@@ -11,7 +11,7 @@ mod slot;
 mod writing;
 
 pub use dense::push_dense;
-pub use fields::{is_in_body, member_named, value_of};
+pub use fields::{Spot, is_in_body, member_named, value_of};
 pub use json_parts::push_quoted;
 pub use lost_times::is_lost;
 pub use scalars::{base64_text, text_at};

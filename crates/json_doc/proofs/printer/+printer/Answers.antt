@@ -50,7 +50,7 @@ write_doc-returns-in-Number-clause-proper t c = rw c.in-Number.is (if_ok c.write
 pub write_doc-returns-in-Str-clause-proper : goal.write_doc-returns-in-Str-clause-proper
 write_doc-returns-in-Str-clause-proper t c =
     let text = text_from c.in-Str.text c.as_str.result.now c.as_str.utf8 c.as_str.ensures.value in
-    rw c.in-Str.is (if_ok c.write_quoted.result _ (IsProper-Str c.in-Str.text text))
+    rw c.in-Str.is (if_ok c.push_quoted.result _ (IsProper-Str c.in-Str.text text))
 
 pub write_doc-returns-in_ok-write_items-in-Items-clause-proper : goal.write_doc-returns-in_ok-write_items-in-Items-clause-proper
 write_doc-returns-in_ok-write_items-in-Items-clause-proper t c =

@@ -7,12 +7,11 @@ use Rattle.json_doc.specs.declared.doc.Doc.TheVariants as doc
 use Rattle.service_model.specs.Kept.{IsMember}
 use Rattle.service_model.specs.Shapes.{names_in}
 use Rattle.texts.specs.Keys.{keys, value_at, IsDistinct, IsNew}
-use Rattle.resp_parser.specs.Ends.{Ends}
+use Rattle.resp_parser.specs.Inside.{Ends, there}
 use Rattle.resp_parser.specs.FirstFault.{fault_of, items_fault, judge_of, members_fault}
 use Rattle.resp_parser.specs.Kept.{kept_of, known_members, pair_of, unknown_tag, with_values}
 use Rattle.resp_parser.specs.Kinds.{is_null}
 use Rattle.resp_parser.specs.Paths.{to_name, unless}
-use Rattle.resp_parser.specs.Values.{there}
 use Rattle.resp_parser.proofs.Due.{due-passes}
 use Rattle.resp_parser.proofs.Ending.{ends-below, err-path, ok-none, ok-value, ok-through}
 use Rattle.resp_parser.proofs.Keyed.{keys-with, new-front}

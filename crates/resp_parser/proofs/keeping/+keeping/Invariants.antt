@@ -4,7 +4,7 @@ use Rattle.std.specs.Vec.Iter.{into_iter_items}
 use Rattle.json_doc.specs.declared.doc.Doc.{Doc, size-Doc}
 use Rattle.resp_parser.specs.FirstFault.{entries_fault, items_fault, judge_of, members_fault}
 use Rattle.resp_parser.specs.Kept.{kept_of, known_members, with_values}
-use Rattle.resp_parser.specs.Values.{values_of}
+use Rattle.resp_parser.specs.Inside.{values_of}
 use Rattle.resp_parser.proofs.Names.{AreNames}
 use Rattle.resp_parser.proofs.keeping.+keeping.Given as goal
 

@@ -2,7 +2,7 @@ use Rattle.std.proofs.Common.{◌≡◌, ◌+◌, ◌++◌, Err, Ok, take, drop,
 use Rattle.std.proofs.lemmas.List.{drop_all, length-set}
 use Rattle.service_model.specs.Shapes.{names_in}
 use Rattle.texts.specs.Keys.{value_at, IsDistinct}
-use Rattle.resp_parser.specs.Ends.{EndsBy}
+use Rattle.resp_parser.specs.Inside.{EndsBy}
 use Rattle.resp_parser.specs.Members.{AreMembers, PlacedValue, entry_for}
 use Rattle.resp_parser.specs.Paths.{to_name}
 use Rattle.resp_parser.proofs.Ending.{may-below}

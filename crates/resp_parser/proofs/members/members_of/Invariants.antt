@@ -1,5 +1,5 @@
 use Rattle.std.proofs.Common.{◌≡◌, length, take, drop}
-use Rattle.resp_parser.specs.Values.{values_of}
+use Rattle.resp_parser.specs.Inside.{values_of}
 use Rattle.resp_parser.proofs.Names.{AreNames}
 use Rattle.resp_parser.proofs.Placed.{Leads}
 use Rattle.resp_parser.proofs.members.members_of.Given as goal

@@ -1,5 +1,5 @@
 use Rattle.std.proofs.Common.{inr, sym, subst, ◌∙◌}
-use Rattle.resp_parser.specs.Ends.{IsFailure}
+use Rattle.resp_parser.specs.Inside.{IsFailure}
 use Rattle.resp_parser.specs.Parsed.{OutputBy, IsParsed, OutputOf, coded, good}
 use Rattle.resp_parser.proofs.Answered.{comes-failed, comes-told}
 use Rattle.resp_parser.proofs.parsing.parsed.Goals as goal

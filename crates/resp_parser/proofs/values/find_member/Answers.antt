@@ -2,7 +2,7 @@ use Rattle.std.proofs.Common.{◌≡◌, ◌+◌, ◌++◌, length, take, drop, 
 use Rattle.std.specs.Prelude.{slice_get, IfSome, IfNone}
 use Rattle.std.proofs.lemmas.List.{take-append-drop}
 use Rattle.texts.specs.Keys.{IsNew}
-use Rattle.resp_parser.specs.Values.{wires_in}
+use Rattle.resp_parser.specs.Inside.{wires_in}
 use Rattle.resp_parser.proofs.Wires.{behind-at, found-before, new-in-both}
 use Rattle.resp_parser.proofs.values.find_member.Goals as goal
 

@@ -4,7 +4,7 @@ use Rattle.std.proofs.lemmas.Bool.{false≢true}
 use Rattle.std.proofs.lemmas.List.{take_more}
 use Rattle.std.proofs.lemmas.Slice.Eq.{bytes_eq-Decides}
 use Rattle.texts.specs.Keys.{IsNew}
-use Rattle.resp_parser.specs.Values.{wires_in}
+use Rattle.resp_parser.specs.Inside.{wires_in}
 use Rattle.resp_parser.proofs.Wires.{new-push, wire-at}
 use Rattle.resp_parser.proofs.values.first_member.Goals as goal
 

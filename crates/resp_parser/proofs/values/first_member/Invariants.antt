@@ -1,6 +1,6 @@
 use Rattle.std.proofs.Common.{take}
 use Rattle.texts.specs.Keys.{IsNew}
-use Rattle.resp_parser.specs.Values.{wires_in}
+use Rattle.resp_parser.specs.Inside.{wires_in}
 use Rattle.resp_parser.proofs.values.first_member.Given as goal
 
 -- none of the members so far is sent under the name

@@ -1,7 +1,7 @@
 use Rattle.std.proofs.Common.{◌≡◌, ◌∷◌, ◌++◌, [], sym, ap, subst, ◌∙◌, append_assoc, rules}
 use Rattle.std.specs.Vec.Iter.{into_iter_items}
 use Rattle.texts.specs.Keys.{keys, IsDistinct}
-use Rattle.resp_parser.specs.Values.{put_at}
+use Rattle.resp_parser.specs.Inside.{put_at}
 use Rattle.resp_parser.proofs.Keyed.{new-front}
 use Rattle.resp_parser.proofs.Wires.{values-put}
 use Rattle.resp_parser.proofs.values.moved_values.Goals as goal

@@ -1,6 +1,6 @@
 use Rattle.std.proofs.Common.{◌≡◌, ◌++◌}
 use Rattle.std.specs.Vec.Iter.{into_iter_items}
-use Rattle.resp_parser.specs.Values.{values_of}
+use Rattle.resp_parser.specs.Inside.{values_of}
 use Rattle.resp_parser.proofs.values.moved_values.Given as goal
 
 abbrev pub invariant-loop-key : goal.invariant-loop-key

@@ -1,5 +1,5 @@
 use Rattle.std.proofs.Common.{◌≡◌, [], take}
-use Rattle.resp_parser.specs.Values.{values_of}
+use Rattle.resp_parser.specs.Inside.{values_of}
 use Rattle.resp_parser.proofs.values.no_values.Given as goal
 
 abbrev pub invariant-loop-member : goal.invariant-loop-member

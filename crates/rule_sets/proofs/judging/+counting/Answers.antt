@@ -1,6 +1,6 @@
 use Rattle.std.proofs.Common.{◌≡◌, ◌^◌, ◌-◌, Some, min, refl, sym, ap, ◌∙◌, arith, rules}
 use Rattle.std.specs.Prelude.{codes}
-use Rattle.rule_sets.specs.declared.judging.Kind.TheVariants as kind
+use Rattle.rule_sets.specs.declared.judging.RuleKind.TheVariants as kind
 use Rattle.rule_sets.specs.BadRules.{kind_of}
 use Rattle.rule_sets.proofs.LeafCounts.{leaves-bare, leaves-endpoint, leaves-error, leaves-none, leaves-tree}
 use Rattle.rule_sets.proofs.Sizes.{size-value}

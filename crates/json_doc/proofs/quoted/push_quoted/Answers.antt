@@ -4,7 +4,7 @@ use Rattle.std.specs.Str.{chars}
 use Rattle.json_doc.specs.Escapes.{escaped}
 use Rattle.json_doc.specs.Plain.{is_plain}
 use Rattle.json_doc.proofs.Plain.{IsCharBoundary-run, escaped-turn, escaped-last, between_quotes}
-use Rattle.json_doc.proofs.quoted.write_quoted.Goals as goal
+use Rattle.json_doc.proofs.quoted.push_quoted.Goals as goal
 
 pub split_at-requires : goal.split_at-requires
 split_at-requires c = rw (c.plain_len.ensures, c.as_bytes.ensures.value) (IsCharBoundary-run _ c.runs.invariant.0)

@@ -2,7 +2,7 @@ use Rattle.std.proofs.Common.{◌≡◌, ◌++◌, ◌∷◌, [], length}
 use Rattle.std.specs.List.{flat_map}
 use Rattle.std.specs.Str.{chars, IsUtf8}
 use Rattle.json_doc.specs.Escapes.{escaped}
-use Rattle.json_doc.proofs.quoted.write_quoted.Given as goal
+use Rattle.json_doc.proofs.quoted.push_quoted.Given as goal
 
 abbrev pub invariant-runs : goal.invariant-runs
 invariant-runs l =

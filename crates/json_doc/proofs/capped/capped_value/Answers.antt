@@ -2,7 +2,7 @@ use Rattle.std.proofs.Common.{sym, subst, arith}
 use Rattle.std.proofs.lemmas.Str.Parse.{digit_at}
 use Rattle.json_doc.specs.Trimmed.{IsCapped}
 use Rattle.json_doc.proofs.DigitLists.{after-more, capped_more}
-use Rattle.json_doc.proofs.number_token.capped_value.Goals as goal
+use Rattle.json_doc.proofs.capped.capped_value.Goals as goal
 
 pub overflow_sub-b : goal.overflow_sub-b
 overflow_sub-b c = (digit_at c.args.digits.now c.loop-b.b-index c.requires (omega arith)).0
