@@ -1,2 +1,4 @@
 pub mod Exchange
+pub mod Exchanges
+pub mod ReadBack
 pub mod Wire

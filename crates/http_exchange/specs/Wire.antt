@@ -42,3 +42,7 @@ head_of m =
 -- the head and the body
 abbrev pub wire_of : Message → List ℕ
 wire_of m = encode_utf8_all (head_of m) ++ m.body
+
+-- the bytes of a message with more headers behind its own
+abbrev pub wire_with : Message → List (List ℕ × List ℕ) → List ℕ
+wire_with m more = wire_of (record m { headers = m.headers ++ more })

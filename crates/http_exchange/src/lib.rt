@@ -2,10 +2,12 @@
 #![tactic(auto)]
 
 mod exchanging;
+mod laws;
 mod receiving;
 mod sending;
 mod writing;
 
 pub use exchanging::exchange;
 pub use http_reply::Outcome;
-pub use writing::wire;
+pub use laws::{exchanges_are_counted, exchanges_join, requests_read_back};
+pub use writing::{wire, wire_with};

@@ -1,7 +1,7 @@
 ghost use Rattle.std.specs.Prelude.{◌≡◌, ◌++◌, ◌∷◌, [], codes, flat_map, length, IfOk, IsTrue, OnOk};
 ghost use Rattle.texts.specs.Ascii.{is_ascii_text};
 ghost use Rattle.std.specs.Fmt.{decimal};
-ghost use Rattle.http_exchange.specs.Wire.{wire_of, request_line, parameters, line, header, has_length, has_body_method, length_line};
+ghost use Rattle.http_exchange.specs.Wire.{wire_of, wire_with, request_line, parameters, line, header, has_length, has_body_method, length_line};
 
 use aws_world::Message;
 use std::alloc::Global;
@@ -12,9 +12,20 @@ use texts::{Bytes, OutOfMemory, Text};
 pub fn wire(alloc: Global, message: &Message) -> Result<Bytes, OutOfMemory>
     ensures { IfOk result (λ bytes. bytes ≡ wire_of message.now) }
 {
+    wire_with(alloc, message, &[])
+}
+
+/// The bytes of a message with more headers behind its own, without a copy of the message.
+pub fn wire_with(
+    alloc: Global,
+    message: &Message,
+    more: &[(Text, Text)],
+) -> Result<Bytes, OutOfMemory>
+    ensures { IfOk result (λ bytes. bytes ≡ wire_with message.now more.now) }
+{
     let mut head = Text::new(alloc);
     push_request_line(&mut head, message)?;
-    push_headers(&mut head, message.headers.as_slice())?;
+    push_both(&mut head, message.headers.as_slice(), more)?;
     push_line(&mut head, "User-Agent: aws-json-cli/1")?;
     push_length(alloc, &mut head, message)?;
     push_line(&mut head, "Connection: close")?;
@@ -46,6 +57,18 @@ fn push_parameters(head: &mut Text, query: &[(Text, Text)]) -> Result<(), OutOfM
         mark = '&';
     }
     Ok(())
+}
+
+/// Puts headers, and more behind them.
+fn push_both(
+    head: &mut Text,
+    headers: &[(Text, Text)],
+    more: &[(Text, Text)],
+) -> Result<(), OutOfMemory>
+    ensures { OnOk result (head.new ≡ head.old ++ flat_map (λ h. line (header h)) (headers.now ++ more.now)) }
+{
+    push_headers(head, headers)?;
+    push_headers(head, more)
 }
 
 fn push_headers(head: &mut Text, headers: &[(Text, Text)]) -> Result<(), OutOfMemory>

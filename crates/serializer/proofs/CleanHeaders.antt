@@ -41,16 +41,16 @@ pub then_ok : {A B : Type 0} (r : Result A EncodeFault) (f : A → Result B Enco
 then_ok (Ok x) f y h = (x, (refl, h))
 then_ok (Err fault) f y h = cc
 
-found_ok : (found : Option EncodeFault) (r : Result Fields EncodeFault) (out : Fields)
+pub found_ok : (found : Option EncodeFault) (r : Result Fields EncodeFault) (out : Fields)
     → ◌≡◌ {A = Result Fields EncodeFault} (elim found [ None ↦ r | Some f ↦ Err f ]) (Ok out) → (found ≡ None) × (r ≡ Ok out)
 found_ok None r out h = (refl, h)
 found_ok (Some f) r out h = cc
 
-checked_ok : (b : Bool) (name : List ℕ) (hs out : Fields) → (if b then Err (BadHeaderText name) else Ok hs) ≡ Ok out → (b ≡ false) × (hs ≡ out)
+pub checked_ok : (b : Bool) (name : List ℕ) (hs out : Fields) → (if b then Err (BadHeaderText name) else Ok hs) ≡ Ok out → (b ≡ false) × (hs ≡ out)
 checked_ok true name hs out h = cc
 checked_ok false name hs out h = (refl, ok_same hs out h)
 
-is_so : (b : Bool) → not b ≡ false → b ≡ true
+pub is_so : (b : Bool) → not b ≡ false → b ≡ true
 is_so true h = refl
 is_so false h = cc
 

@@ -7,3 +7,4 @@ pub mod PathLabels
 pub mod QueryParts
 pub mod PieceTexts
 pub mod PathMarks
+pub mod SoundNames

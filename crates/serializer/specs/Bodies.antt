@@ -10,9 +10,10 @@ use Rattle.texts.specs.Keys.{value_at}
 use Rattle.texts.specs.declared.pairs.Pair.{Pair}
 use Rattle.typed_value.specs.declared.typed.Typed.{Typed, out-Typed}
 use Rattle.typed_value.specs.declared.typed.Typed.TheOpen.{Typed-F}
-use Rattle.value_texts.specs.JsonTexts.{json_of, members_json}
+use Rattle.json_doc.specs.Compact.{compact_of}
+use Rattle.json_doc.specs.declared.doc.Doc.{Doc}
+use Rattle.value_texts.specs.Documents.{document_of, members_document, is_in_body}
 use Rattle.value_texts.specs.Slots.{slot_of_member}
-use Rattle.value_texts.specs.Spots.{is_in_body}
 use Rattle.serializer.specs.Members.{is_json, payload_at, is_raw}
 
 -- a payload is JSON where it isn't sent as its own bytes; without one, a body is where a member stands in it
@@ -29,15 +30,19 @@ raw_bytes (Typed-F.Text t) = encode_utf8_all t
 raw_bytes (Typed-F.Blob bytes) = bytes
 raw_bytes others = []
 
+-- the compact text of a document
+abbrev pub json_bytes : Doc → List ℕ
+json_bytes doc = encode_utf8_all (compact_of doc)
+
 -- a payload: its own bytes, or its JSON; where it has no value, nothing or an empty object
 abbrev pub payload_body : List Shape → Member → Option Typed → List ℕ
 payload_body shapes m None = if is_raw shapes m then [] else codes "{}"
 payload_body shapes m (Some v) =
-    if is_raw shapes m then raw_bytes (out-Typed v) else encode_utf8_all (json_of shapes v (slot_of_member m))
+    if is_raw shapes m then raw_bytes (out-Typed v) else json_bytes (document_of shapes v (slot_of_member m))
 
 -- the members that stand in the body, as an object
 abbrev pub object_body : Bool → List Shape → List Member → List (Pair Typed) → List ℕ
-object_body is_json shapes members ps = encode_utf8_all (members_json shapes (filter (is_in_body is_json) members) ps)
+object_body is_json shapes members ps = json_bytes (members_document shapes (filter (is_in_body is_json) members) ps)
 
 abbrev pub rest_body : List Shape → List Member → List (Pair Typed) → Option Member → List ℕ
 rest_body shapes members ps (Some payload) = payload_body shapes payload (value_at payload.name ps)

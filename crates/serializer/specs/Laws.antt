@@ -12,7 +12,7 @@ use Rattle.uri_texts.specs.declared.templates.Piece.TheVariants.{Plain, Label}
 use Rattle.serializer.specs.declared.encode_fault.EncodeFault.{EncodeFault}
 use Rattle.serializer.specs.declared.encode_fault.EncodeFault.TheVariants.{EmptyLabel, BadHostLabel, TimeOutOfRange, BadHeaderText}
 use Rattle.serializer.specs.Faults.{Fields}
-use Rattle.serializer.specs.HeaderNames.{is_header_byte}
+use Rattle.serializer.specs.HeaderNames.{is_header_byte, is_token, is_of_sending}
 use Rattle.serializer.specs.Members.{is_json}
 use Rattle.serializer.specs.Messages.{base_path, encoded, path_pieces}
 
@@ -45,6 +45,17 @@ has_clean_texts table op e =
 abbrev pub HeadersAreClean : Type 0
 HeadersAreClean = (table : Table) (op : Operation) (value : Typed) (e : Endpoint) (m : Message)
     → has_clean_texts table op e ≡ true → encoded table op value e ≡ Ok m → are_clean m.headers ≡ true
+
+-- a token for its name, and none that sending writes
+abbrev pub is_named : List ℕ × List ℕ → Bool
+is_named h = is_token h.0 && not (is_of_sending h.0)
+
+abbrev pub are_named : Fields → Bool
+are_named headers = list_all is_named headers
+
+-- whatever the value, the model and the endpoint are, no header's name is other than that
+abbrev pub HeadersAreNamed : Type 0
+HeadersAreNamed = (table : Table) (op : Operation) (value : Typed) (e : Endpoint) (m : Message) → encoded table op value e ≡ Ok m → are_named m.headers ≡ true
 
 -- marks of a URI: what stands between them is in its place where it has none of them
 abbrev pub marks_around : Bool → List ℕ

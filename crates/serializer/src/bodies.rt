@@ -1,11 +1,10 @@
 //! The body of a message.
-ghost use Rattle.std.specs.Prelude.{◌≡◌, false, encode_utf8_all, IfOk};
+ghost use Rattle.std.specs.Prelude.{◌≡◌, false, IfOk};
 ghost use Rattle.std.specs.List.{list_any};
 ghost use Rattle.std.specs.Option.{option_copied};
 ghost use Rattle.typed_value.specs.declared.typed.Typed.{out-Typed};
-ghost use Rattle.value_texts.specs.JsonTexts.{json_of};
-ghost use Rattle.value_texts.specs.Spots.{is_in_body};
-ghost use Rattle.serializer.specs.Bodies.{has_json_body, object_body, raw_bytes, payload_body, body_of};
+ghost use Rattle.value_texts.specs.Documents.{document_of, is_in_body};
+ghost use Rattle.serializer.specs.Bodies.{has_json_body, json_bytes, object_body, raw_bytes, payload_body, body_of};
 
 use crate::members::{is_json, is_raw, members_of, payload_of};
 use json_doc::{Bytes, OutOfMemory, Pair, Text};
@@ -90,7 +89,7 @@ fn payload_body(
 }
 
 fn json_bytes(alloc: Global, model: &Model, slot: Slot, value: &Typed) -> Result<Bytes, OutOfMemory>
-    ensures { IfOk result (λ bytes. bytes ≡ encode_utf8_all (json_of model.now.shapes value.now slot)) }
+    ensures { IfOk result (λ bytes. bytes ≡ json_bytes (document_of model.now.shapes value.now slot)) }
 {
     let mut out = Text::new(alloc);
     push_value(alloc, &mut out, model, slot, value)?;

@@ -101,8 +101,8 @@ fn json_value(alloc: Global, value: &Typed) -> Result<Text, OutOfMemory>
 {
     let mut json = Text::new(alloc);
     match value {
-        Typed::Any(doc) => push_dense(alloc, &mut json, doc)?,
-        Typed::Text(text) => push_quoted(alloc, &mut json, text)?,
+        Typed::Any(doc) => push_dense(&mut json, doc)?,
+        Typed::Text(text) => push_quoted(&mut json, text)?,
         _ => {}
     }
     base64_text(alloc, json.as_str().as_bytes())

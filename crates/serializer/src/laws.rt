@@ -1,5 +1,5 @@
 //! What is true of all messages.
-ghost use Rattle.serializer.specs.Laws.{ValuesHaveOutcome, HeadersAreClean, LabelsStayInPlace, ParametersStayInPlace, PathsHaveNoQuery};
+ghost use Rattle.serializer.specs.Laws.{ValuesHaveOutcome, HeadersAreClean, HeadersAreNamed, LabelsStayInPlace, ParametersStayInPlace, PathsHaveNoQuery};
 
 /// A value gives one message, or one fault that names a member.
 pub fn values_have_outcome()
@@ -10,6 +10,12 @@ pub fn values_have_outcome()
 /// what the model and the endpoint themselves give.
 pub fn headers_are_clean()
     ensures { HeadersAreClean }
+{}
+
+/// The name of each header is a token, and none is `Content-Length`, `Connection`, `User-Agent` or
+/// `Transfer-Encoding`, which sending a request writes.
+pub fn headers_are_named()
+    ensures { HeadersAreNamed }
 {}
 
 /// Whatever the value is, what fills a label of the path has no `?`, `#`, `&` or `=`, and a `/` only where the label

@@ -19,8 +19,8 @@ mod tokens;
 pub use encode_fault::EncodeFault;
 pub use labels::Labelled;
 pub use laws::{
-    headers_are_clean, labels_stay_in_place, parameters_stay_in_place, paths_have_no_query,
-    values_have_outcome,
+    headers_are_clean, headers_are_named, labels_stay_in_place, parameters_stay_in_place,
+    paths_have_no_query, values_have_outcome,
 };
 pub use messages::message;
 pub use tokens::{needs_token, with_token};

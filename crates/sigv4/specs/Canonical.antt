@@ -8,8 +8,12 @@ use Rattle.sigv4.specs.Path.{canonical_path}
 use Rattle.sigv4.specs.Parameters.{canonical_query}
 use Rattle.sigv4.specs.Headers.{canonical_headers, header_lines, signed_headers}
 
--- the method, the path, the query, the headers, their names and the body's hash
-abbrev pub canonical_request : Message → List (List ℕ × List ℕ) → List (List ℕ) → List ℕ
-canonical_request m query names =
+-- the method, the path, the query, these headers as they are signed, their names and the body's hash
+abbrev pub canonical_text : Message → List (List ℕ × List ℕ) → List (List ℕ × List ℕ) → List (List ℕ) → List ℕ
+canonical_text m headers query names =
     line m.method ++ line (canonical_path m.path) ++ line (canonical_query query)
-    ++ line (header_lines (canonical_headers m.headers) names) ++ line (signed_headers names) ++ encode_lower (sha256 m.body)
+    ++ line (header_lines headers names) ++ line (signed_headers names) ++ encode_lower (sha256 m.body)
+
+-- the same with the headers of the message
+abbrev pub canonical_request : Message → List (List ℕ × List ℕ) → List (List ℕ) → List ℕ
+canonical_request m query names = canonical_text m (canonical_headers m.headers) query names

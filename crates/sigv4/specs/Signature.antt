@@ -11,17 +11,21 @@ use Rattle.sigv4.specs.Parameters.{IsSortedQuery}
 use Rattle.sigv4.specs.Headers.{canonical_headers, AreSignedNames, signed_headers}
 use Rattle.sigv4.specs.Canonical.{canonical_request}
 
--- a message with one more header
-abbrev pub with_header : Message → List ℕ → List ℕ → Message
-with_header m name value = record m { headers = m.headers ++ (name, value) ∷ [] }
+-- a message with more headers behind its own
+abbrev pub with_headers : Message → List (List ℕ × List ℕ) → Message
+with_headers m more = record m { headers = m.headers ++ more }
 
-abbrev pub with_token : Message → Option (List ℕ) → Message
-with_token m None = m
-with_token m (Some token) = with_header m (codes "X-Amz-Security-Token") token
+abbrev pub token_header : Option (List ℕ) → List (List ℕ × List ℕ)
+token_header None = []
+token_header (Some token) = (codes "X-Amz-Security-Token", token) ∷ []
 
--- the message with its moment, and with the session's token where there is a session
+-- the moment, and the session's token where there is a session
+abbrev pub stamp : Signer → ℕ → List (List ℕ × List ℕ)
+stamp signer seconds = (codes "X-Amz-Date", basic_text seconds) ∷ token_header signer.session
+
+-- the message with its moment and the session's token
 abbrev pub stamped : Message → Signer → ℕ → Message
-stamped m signer seconds = with_token (with_header m (codes "X-Amz-Date") (basic_text seconds)) signer.session
+stamped m signer seconds = with_headers m (stamp signer seconds)
 
 -- the credential scope: date, region, service and a fixed end
 abbrev pub scope_of : Signer → ℕ → List ℕ
@@ -60,8 +64,9 @@ authorization_of signer seconds names signature =
 -- a message with its signature in `Authorization`, over a sorted query and names
 abbrev pub authorized : Signer → ℕ → Message → List (List ℕ × List ℕ) → List (List ℕ) → Message
 authorized signer seconds m query names =
-    with_header m (codes "Authorization")
-    (authorization_of signer seconds names (signature_of signer seconds (canonical_request m query names)))
+    with_headers m
+    ((codes "Authorization", authorization_of signer seconds names (signature_of signer seconds (canonical_request m query names)))
+    ∷ [])
 
 -- the message as it is signed so many seconds after 1970 begins
 pub record IsSignedAt (message : Message) (signer : Signer) (seconds : ℕ) (signed : Message) : Type 0 where

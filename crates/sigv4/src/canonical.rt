@@ -1,6 +1,5 @@
 ghost use Rattle.std.specs.Prelude.{◌≡◌, map, IfOk};
-ghost use Rattle.sigv4.specs.Canonical.{canonical_request};
-ghost use Rattle.sigv4.specs.Headers.{canonical_headers};
+ghost use Rattle.sigv4.specs.Canonical.{canonical_text};
 ghost use Rattle.sigv4.specs.Parameters.{shown};
 
 use crate::canonical_headers::CanonicalHeaders;
@@ -11,16 +10,16 @@ use aws_world::Message;
 use std::alloc::Global;
 use texts::{OutOfMemory, Text};
 
-/// The canonical request ("Create a signed AWS API request", step 1): method, path, query, headers,
-/// their names and the body's hash.
+/// The canonical request ("Create a signed AWS API request", step 1): method, path, query, these
+/// headers, their names and the body's hash.
 pub fn canonical_request(
     alloc: Global,
     message: &Message,
     query: &[(&str, &str)],
     headers: &CanonicalHeaders,
 ) -> Result<Text, OutOfMemory>
-    requires { headers.now.fields ≡ canonical_headers message.now.headers }
-    ensures { IfOk result (λ request. request ≡ canonical_request message.now (map shown query.now) headers.now.names) }
+    ensures { IfOk result (λ request. request
+        ≡ canonical_text message.now headers.now.fields (map shown query.now) headers.now.names) }
 {
     let mut request = message.method.copy(alloc)?;
     request.push_ascii("\n")?;

@@ -17,12 +17,18 @@ pub struct CanonicalHeaders {
 }
 
 impl CanonicalHeaders {
-    /// Those of a message.
-    pub fn of(alloc: Global, headers: &[(Text, Text)]) -> Result<CanonicalHeaders, OutOfMemory>
-        ensures fields { IfOk result (λ signed. signed.fields ≡ canonical_headers headers.now) }
-        ensures names { IfOk result (λ signed. AreSignedNames (canonical_headers headers.now) signed.names) }
+    /// Those of a message with more headers behind its own.
+    pub fn of(
+        alloc: Global,
+        headers: &[(Text, Text)],
+        more: &[(Text, Text)],
+    ) -> Result<CanonicalHeaders, OutOfMemory>
+        ensures fields { IfOk result (λ signed. signed.fields ≡ canonical_headers (headers.now ++ more.now)) }
+        ensures names { IfOk result (λ signed. AreSignedNames (canonical_headers (headers.now ++ more.now)) signed.names) }
     {
-        let fields = canonical_fields(alloc, headers)?;
+        let mut fields = List::new(alloc);
+        push_canonical(alloc, &mut fields, headers)?;
+        push_canonical(alloc, &mut fields, more)?;
         let names = signed_names(alloc, fields.as_slice())?;
         Ok(CanonicalHeaders { fields, names })
     }
@@ -38,14 +44,14 @@ impl CanonicalHeaders {
     }
 }
 
-/// All headers but `Authorization`, with names in small letters and canonical values.
-fn canonical_fields(
+/// Puts all headers but `Authorization`, with names in small letters and canonical values.
+fn push_canonical(
     alloc: Global,
+    fields: &mut List<(Text, Text)>,
     headers: &[(Text, Text)],
-) -> Result<List<(Text, Text)>, OutOfMemory>
-    ensures { IfOk result (λ fields. fields ≡ canonical_headers headers.now) }
+) -> Result<(), OutOfMemory>
+    ensures { OnOk result (fields.new ≡ fields.old ++ canonical_headers headers.now) }
 {
-    let mut fields = List::new(alloc);
     for (name, value) in headers {
         let lower = lowered(alloc, name.as_str())?;
         if lower.is("authorization") {
@@ -53,7 +59,7 @@ fn canonical_fields(
         }
         fields.push((lower, canonical_value(alloc, value.as_str())?))?;
     }
-    Ok(fields)
+    Ok(())
 }
 
 /// Puts a name with its values and a line end.

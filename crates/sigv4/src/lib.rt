@@ -20,4 +20,4 @@ pub use keyed_hash::hmac;
 pub use laws::has_one_signed_form;
 pub use sign_fault::SignFault;
 pub use signer::Signer;
-pub use signing::sign;
+pub use signing::{sign, signed_headers};

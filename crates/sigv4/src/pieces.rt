@@ -52,13 +52,25 @@ pub fn push_header(
     headers.push((key, value))
 }
 
+/// Puts copies of pairs.
+pub fn push_pairs(
+    alloc: Global,
+    out: &mut List<(Text, Text)>,
+    pairs: &[(Text, Text)],
+) -> Result<(), OutOfMemory>
+    ensures { OnOk result (out.new ≡ out.old ++ pairs.now) }
+{
+    for (name, value) in pairs {
+        out.push((name.copy(alloc)?, value.copy(alloc)?))?;
+    }
+    Ok(())
+}
+
 /// An equal list of pairs.
 pub fn copy_pairs(alloc: Global, pairs: &[(Text, Text)]) -> Result<List<(Text, Text)>, OutOfMemory>
     ensures { IfOk result (λ made. made ≡ pairs.now) }
 {
     let mut made = List::new(alloc);
-    for (name, value) in pairs {
-        made.push((name.copy(alloc)?, value.copy(alloc)?))?;
-    }
+    push_pairs(alloc, &mut made, pairs)?;
     Ok(made)
 }

@@ -1,19 +1,18 @@
-ghost use Rattle.std.specs.Prelude.{◌≡◌, ◌⊎◌, IsTrue, IfOk, IfErr, Err};
-ghost use Rattle.texts.specs.Ascii.{is_ascii_text};
+ghost use Rattle.std.specs.Prelude.{◌≡◌, ◌⊎◌, IfOk, IfErr, Err};
 ghost use Rattle.sigv4.specs.Moment.{IsMoment};
-ghost use Rattle.sigv4.specs.Signature.{IsSigned, IsSignedAt, with_header, with_token, stamped};
+ghost use Rattle.sigv4.specs.Signature.{IsSigned, IsSignedAt, with_headers, stamp};
 
 use crate::authorization::authorization;
 use crate::canonical::canonical_request;
 use crate::canonical_headers::CanonicalHeaders;
 use crate::moments::seconds_of;
 use crate::parameters::sorted_query;
-use crate::pieces::{copy_pairs, push_header};
+use crate::pieces::{copy_pairs, push_header, push_pairs};
 use crate::sign_fault::SignFault;
 use crate::signer::Signer;
 use aws_world::Message;
 use std::alloc::Global;
-use texts::{Bytes, OutOfMemory, Text};
+use texts::{Bytes, List, OutOfMemory, Text};
 use time_texts::push_basic;
 
 /// The message signed at a moment in seconds since 1970 (AWS Signature Version 4): with `X-Amz-Date`,
@@ -29,84 +28,83 @@ pub fn sign(
     ensures outside { ¬ IsMoment now → result ≡ Err (SignFault.BadClock now) }
     ensures refused { IfErr result (λ fault. (fault ≡ SignFault.OutOfMemory) ⊎ ((fault ≡ SignFault.BadClock now) × ¬ IsMoment now)) }
 {
-    let Some(seconds) = seconds_of(now) else {
-        return Err(SignFault::BadClock(now));
-    };
-    let signed = signed_at(alloc, message, signer, seconds)?;
+    let added = signed_headers(alloc, message, signer, now)?;
+    let signed = with_headers(alloc, message, added.as_slice())?;
     Ok(signed)
 }
 
-/// The message signed so many seconds after 1970 begins.
-fn signed_at(
+/// The headers that `sign` puts behind a message's own, for a caller that writes them out without a
+/// copy of the message. The faults are those of `sign`.
+pub fn signed_headers(
     alloc: Global,
     message: &Message,
     signer: &Signer,
-    seconds: u64,
-) -> Result<Message, OutOfMemory>
-    ensures { IfOk result (IsSignedAt message.now signer.now seconds) }
+    now: i64,
+) -> Result<List<(Text, Text)>, SignFault>
+    ensures signed { IfOk result (λ added. IsSigned message.now signer.now now (with_headers message.now added)) }
+    ensures within { IfOk result (λ _. IsMoment now) }
+    ensures outside { ¬ IsMoment now → result ≡ Err (SignFault.BadClock now) }
+    ensures refused { IfErr result (λ fault. (fault ≡ SignFault.OutOfMemory) ⊎ ((fault ≡ SignFault.BadClock now) × ¬ IsMoment now)) }
 {
-    let made = stamped(alloc, message, signer, seconds)?;
-    let query = sorted_query(alloc, message.query.as_slice())?;
-    let headers = CanonicalHeaders::of(alloc, made.headers.as_slice())?;
-    let request = canonical_request(alloc, &made, query.as_slice(), &headers)?;
-    let value = authorization(alloc, signer, seconds, headers.names.as_slice(), &request)?;
-    Ok(with_header(alloc, made, "Authorization", value)?)
+    let Some(seconds) = seconds_of(now) else {
+        return Err(SignFault::BadClock(now));
+    };
+    let added = headers_at(alloc, message, signer, seconds)?;
+    Ok(added)
 }
 
-/// A copy of the message with its moment, and with the session's token where there is a session.
-fn stamped(
+/// The headers that are put behind a message's own so many seconds after 1970 begins.
+fn headers_at(
     alloc: Global,
     message: &Message,
     signer: &Signer,
     seconds: u64,
-) -> Result<Message, OutOfMemory>
-    ensures { IfOk result (λ made. made ≡ stamped message.now signer.now seconds) }
+) -> Result<List<(Text, Text)>, OutOfMemory>
+    ensures { IfOk result (λ added. IsSignedAt message.now signer.now seconds (with_headers message.now added)) }
 {
+    let mut added = stamp(alloc, signer, seconds)?;
+    let query = sorted_query(alloc, message.query.as_slice())?;
+    let headers = CanonicalHeaders::of(alloc, message.headers.as_slice(), added.as_slice())?;
+    let request = canonical_request(alloc, message, query.as_slice(), &headers)?;
+    let value = authorization(alloc, signer, seconds, headers.names.as_slice(), &request)?;
+    push_header(alloc, &mut added, "Authorization", value)?;
+    Ok(added)
+}
+
+/// The moment's header, and that of the session's token where there is a session.
+fn stamp(
+    alloc: Global,
+    signer: &Signer,
+    seconds: u64,
+) -> Result<List<(Text, Text)>, OutOfMemory>
+    ensures { IfOk result (λ made. made ≡ stamp signer.now seconds) }
+{
+    let mut made = List::new(alloc);
     let mut date = Text::new(alloc);
     push_basic(&mut date, seconds)?;
-    let dated = with_header(alloc, copy(alloc, message)?, "X-Amz-Date", date)?;
-    with_token(alloc, dated, &signer.session)
-}
-
-/// The message with a session's token, where there is one.
-fn with_token(
-    alloc: Global,
-    message: Message,
-    session: &Option<Text>,
-) -> Result<Message, OutOfMemory>
-    ensures { IfOk result (λ made. made ≡ with_token message session.now) }
-{
-    match session {
-        Some(token) => with_header(alloc, message, "X-Amz-Security-Token", token.copy(alloc)?),
-        None => Ok(message),
+    push_header(alloc, &mut made, "X-Amz-Date", date)?;
+    if let Some(token) = &signer.session {
+        push_header(alloc, &mut made, "X-Amz-Security-Token", token.copy(alloc)?)?;
     }
-}
-
-/// The message with one more header.
-fn with_header(
-    alloc: Global,
-    message: Message,
-    name: &str,
-    value: Text,
-) -> Result<Message, OutOfMemory>
-    requires { IsTrue (is_ascii_text name.now) }
-    ensures { IfOk result (λ made. made ≡ with_header message name.now value) }
-{
-    let mut made = message;
-    push_header(alloc, &mut made.headers, name, value)?;
     Ok(made)
 }
 
-/// An equal message.
-fn copy(alloc: Global, message: &Message) -> Result<Message, OutOfMemory>
-    ensures { IfOk result (λ made. made ≡ message.now) }
+/// A copy of the message with more headers behind its own.
+fn with_headers(
+    alloc: Global,
+    message: &Message,
+    more: &[(Text, Text)],
+) -> Result<Message, OutOfMemory>
+    ensures { IfOk result (λ made. made ≡ with_headers message.now more.now) }
 {
+    let mut headers = copy_pairs(alloc, message.headers.as_slice())?;
+    push_pairs(alloc, &mut headers, more)?;
     Ok(Message {
         method: message.method.copy(alloc)?,
         host: message.host.copy(alloc)?,
         path: message.path.copy(alloc)?,
         query: copy_pairs(alloc, message.query.as_slice())?,
-        headers: copy_pairs(alloc, message.headers.as_slice())?,
+        headers,
         body: Bytes::from_slice(alloc, message.body.as_slice())?,
     })
 }

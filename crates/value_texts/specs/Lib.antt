@@ -1,7 +1,8 @@
 pub mod Dense
-pub mod JsonTexts
+pub mod Documents
+pub mod Inside
 pub mod LostTimes
 pub mod Quoted
 pub mod Scalars
 pub mod Slots
-pub mod Spots
+pub mod WholeNumbers

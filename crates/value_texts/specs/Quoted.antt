@@ -1,17 +1,8 @@
 -- Texts in JSON.
-use Rattle.std.specs.Prelude.{ℕ, List, ◌++◌, codes}
-use Rattle.json_doc.specs.Compact.{compact_of}
-use Rattle.json_doc.specs.declared.doc.Doc.TheVariants.{Str}
-use Rattle.texts.specs.declared.pairs.Pair.{Pair}
+use Rattle.std.specs.Prelude.{ℕ, List}
+use Rattle.json_doc.specs.declared.layout.Layout.TheVariants.{Compact}
+use Rattle.json_doc.specs.Escapes.{quoted as escaped}
 
--- a text in quotation marks, as it is printed as a document
+-- a text in quotation marks, in printable ASCII alone
 abbrev pub quoted : List ℕ → List ℕ
-quoted text = compact_of (Str text)
-
--- a key and what stands between it and its value
-abbrev pub key_text : List ℕ → List ℕ
-key_text key = quoted key ++ codes ": "
-
--- a key and the text of its value
-abbrev pub field_text : Pair (List ℕ) → List ℕ
-field_text p = key_text p.key ++ p.value
+quoted text = escaped Compact text

@@ -5,10 +5,10 @@ ghost use Rattle.service_model.specs.declared.shape.Shape.{Shape};
 ghost use Rattle.json_doc.specs.Grammar.{put_all};
 ghost use Rattle.typed_value.specs.Fits.{with_values};
 ghost use Rattle.typed_value.specs.Places.{member_named};
-ghost use Rattle.value_texts.specs.JsonTexts.{json_of, given_fields, member_field};
+ghost use Rattle.value_texts.specs.Documents.{document_of, given_fields, member_field, is_in_body};
 ghost use Rattle.std.specs.Option.{option_copied};
 ghost use Rattle.texts.specs.Keys.{put, value_at};
-ghost use Rattle.value_texts.specs.Spots.{AreSpots, spot_of, spot_field, no_field, is_in_body};
+ghost use Rattle.value_texts.specs.Inside.{AreSpots, spot_of, spot_field, no_field};
 
 use crate::slot::Slot;
 use json_doc::{OutOfMemory, Pair, Pairs, Text};
@@ -52,7 +52,7 @@ pub(crate) fn given_spots(
     fields: &[Pair<Typed>],
 ) -> Result<Pairs<Spot>, OutOfMemory>
     ensures within { IfOk result (AreSpots fields.now) }
-    ensures texts { IfOk result (λ spots. (shapes : List Shape) → map (spot_field shapes fields.now) spots
+    ensures values { IfOk result (λ spots. (shapes : List Shape) → map (spot_field shapes fields.now) spots
         ≡ put_all [] (given_fields shapes (filter (is_in_body is_json) members.now) fields.now)) }
 {
     let mut spots = Pairs::new(alloc);
@@ -75,8 +75,8 @@ pub(crate) fn member_spots(
     fields: &[Pair<Typed>],
 ) -> Result<Pairs<Spot>, OutOfMemory>
     ensures within { IfOk result (AreSpots fields.now) }
-    ensures texts { IfOk result (λ spots. (shapes : List Shape) → map (spot_field shapes fields.now) spots
-        ≡ put_all [] (flat_map (member_field members.now) (with_values (json_of shapes) fields.now))) }
+    ensures values { IfOk result (λ spots. (shapes : List Shape) → map (spot_field shapes fields.now) spots
+        ≡ put_all [] (flat_map (member_field members.now) (with_values (document_of shapes) fields.now))) }
 {
     let mut spots = Pairs::new(alloc);
     for (at, field) in fields.iter().enumerate() {

@@ -48,7 +48,7 @@ fn whole_text(alloc: Global, n: i64) -> Result<Text, OutOfMemory>
 }
 
 /// Puts a whole number.
-pub(crate) fn push_whole(alloc: Global, out: &mut Text, n: i64) -> Result<(), OutOfMemory>
+fn push_whole(alloc: Global, out: &mut Text, n: i64) -> Result<(), OutOfMemory>
     ensures { OnOk result (out.new ≡ out.old ++ signed_decimal n) }
 {
     out.push_str(format!(in alloc; "{n}")?.as_str())
@@ -64,7 +64,7 @@ pub(crate) fn moment_text(alloc: Global, form: TimeForm, moment: i64) -> Result<
 }
 
 /// Puts a moment in one of the three forms.
-pub(crate) fn push_moment(
+fn push_moment(
     alloc: Global,
     out: &mut Text,
     form: TimeForm,

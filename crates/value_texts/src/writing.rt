@@ -1,19 +1,23 @@
-//! Values as JSON texts, written once behind one another.
+//! The JSON texts of values, written once behind one another: each is that of the value's document, which is
+//! never made.
 ghost use Rattle.std.specs.Prelude.{◌≡◌, ◌++◌, map, filter, OnOk};
 ghost use Rattle.typed_value.specs.Fits.{with_values};
 ghost use Rattle.typed_value.specs.declared.typed.Typed.{out-Typed};
-ghost use Rattle.value_texts.specs.JsonTexts.{json_of, scalar_json, moment_json, joined_items, item_text, fields_text, joined_fields, entry_field, members_json};
-ghost use Rattle.value_texts.specs.Quoted.{quoted, key_text};
+ghost use Rattle.json_doc.specs.Compact.{compact_of};
+ghost use Rattle.value_texts.specs.Documents.{document_of, scalar_document, moment_document, item_document, fields_of, entry_field, members_document, is_in_body};
+ghost use Rattle.value_texts.specs.Quoted.{quoted};
 ghost use Rattle.value_texts.specs.Scalars.{base64_text, moment_text};
-ghost use Rattle.value_texts.specs.Spots.{spot_field, AreSpots, is_in_body};
+ghost use Rattle.value_texts.specs.Inside.{spot_field, AreSpots, key_text, fields_text, items_text};
+ghost use Rattle.value_texts.specs.WholeNumbers.{whole_document};
 
 use crate::fields::{Spot, given_spots, member_spots};
-use crate::json_parts::{push_document, push_quoted};
-use crate::scalars::{base64_text, moment_text, push_moment, push_whole};
+use crate::json_parts::push_quoted;
+use crate::scalars::{base64_text, moment_text};
 use crate::slot::{Slot, is_map, shape_at};
-use json_doc::{Doc, OutOfMemory, Pair, Text};
+use json_doc::{Decimal, Doc, OutOfMemory, Pair, Text, push_compact};
 use service_model::{Member, Model, Shape, ShapeId, TimeForm};
 use std::alloc::Global;
+use time_texts::unix_seconds;
 use typed_value::Typed;
 
 /// Puts the members of an input that stand in the body and have values, in the model's order.
@@ -25,7 +29,7 @@ pub fn push_members(
     members: &[Member],
     fields: &[Pair<Typed>],
 ) -> Result<(), OutOfMemory>
-    ensures { OnOk result (out.new ≡ out.old ++ members_json model.now.shapes (filter (is_in_body is_json) members.now) fields.now) }
+    ensures { OnOk result (out.new ≡ out.old ++ compact_of (members_document model.now.shapes (filter (is_in_body is_json) members.now) fields.now)) }
 {
     let spots = given_spots(alloc, is_json, members, fields)?;
     out.push('{')?;
@@ -42,7 +46,7 @@ pub fn push_value(
     slot: Slot,
     value: &Typed,
 ) -> Result<(), OutOfMemory>
-    ensures { OnOk result (out.new ≡ out.old ++ json_of model.now.shapes value.now slot) }
+    ensures { OnOk result (out.new ≡ out.old ++ compact_of (document_of model.now.shapes value.now slot)) }
 {
     let Some(shape) = shape_at(model, slot.shape) else {
         return out.push_ascii("null");
@@ -69,18 +73,25 @@ fn push_scalar(
     form: TimeForm,
     value: &Typed,
 ) -> Result<(), OutOfMemory>
-    ensures { OnOk result (out.new ≡ out.old ++ scalar_json form (out-Typed value.now)) }
+    ensures { OnOk result (out.new ≡ out.old ++ compact_of (scalar_document form (out-Typed value.now))) }
 {
     match value {
-        Typed::Text(text) => push_quoted(alloc, out, text),
-        Typed::Int(n) => push_whole(alloc, out, *n),
-        Typed::Number(n) => push_document(alloc, out, &Doc::Number(*n)),
-        Typed::Flag(flag) => push_document(alloc, out, &Doc::Flag(*flag)),
+        Typed::Text(text) => push_quoted(out, text),
+        Typed::Int(n) => push_number(out, *n),
+        Typed::Number(n) => push_compact(out, &Doc::Number(*n)),
+        Typed::Flag(flag) => push_compact(out, &Doc::Flag(*flag)),
         Typed::Blob(bytes) => push_base64(alloc, out, bytes.as_slice()),
         Typed::Moment(moment) => push_moment_json(alloc, out, form, *moment),
-        Typed::Any(doc) => push_document(alloc, out, doc),
+        Typed::Any(doc) => push_compact(out, doc),
         _ => out.push_ascii("null"),
     }
+}
+
+/// Puts a whole number.
+fn push_number(out: &mut Text, n: i64) -> Result<(), OutOfMemory>
+    ensures { OnOk result (out.new ≡ out.old ++ compact_of (whole_document n)) }
+{
+    push_compact(out, &Doc::Number(Decimal::of(n)))
 }
 
 /// Puts bytes as a text in base64.
@@ -88,7 +99,7 @@ fn push_base64(alloc: Global, out: &mut Text, bytes: &[u8]) -> Result<(), OutOfM
     ensures { OnOk result (out.new ≡ out.old ++ quoted (base64_text bytes.now)) }
 {
     let text = base64_text(alloc, bytes)?;
-    push_quoted(alloc, out, &text)
+    push_quoted(out, &text)
 }
 
 /// Puts a moment: as a number where it is seconds since 1970, else as a text.
@@ -98,10 +109,10 @@ fn push_moment_json(
     form: TimeForm,
     moment: i64,
 ) -> Result<(), OutOfMemory>
-    ensures { OnOk result (out.new ≡ out.old ++ moment_json form moment) }
+    ensures { OnOk result (out.new ≡ out.old ++ compact_of (moment_document form moment)) }
 {
     match form {
-        TimeForm::Unix => push_moment(alloc, out, form, moment),
+        TimeForm::Unix => push_number(out, unix_seconds(moment)),
         TimeForm::Rfc822 | TimeForm::Iso8601 => push_quoted_moment(alloc, out, form, moment),
     }
 }
@@ -115,7 +126,7 @@ fn push_quoted_moment(
     ensures { OnOk result (out.new ≡ out.old ++ quoted (moment_text form moment)) }
 {
     let text = moment_text(alloc, form, moment)?;
-    push_quoted(alloc, out, &text)
+    push_quoted(out, &text)
 }
 
 /// Puts the items of a list.
@@ -127,7 +138,7 @@ fn push_items(
     item: Option<ShapeId>,
     items: &[Typed],
 ) -> Result<(), OutOfMemory>
-    ensures { OnOk result (out.new ≡ out.old ++ joined_items (map (λ v. item_text item (json_of model.now.shapes v)) items.now)) }
+    ensures { OnOk result (out.new ≡ out.old ++ items_text (map (λ v. compact_of (item_document item (document_of model.now.shapes v))) items.now)) }
 {
     let mut before = "";
     for value in items {
@@ -147,7 +158,7 @@ fn push_item(
     item: Option<ShapeId>,
     value: &Typed,
 ) -> Result<(), OutOfMemory>
-    ensures { OnOk result (out.new ≡ out.old ++ item_text item (json_of model.now.shapes value.now)) }
+    ensures { OnOk result (out.new ≡ out.old ++ compact_of (item_document item (document_of model.now.shapes value.now))) }
 {
     match item {
         Some(id) => push_value(alloc, out, model, Slot::of_shape(id), value),
@@ -164,7 +175,7 @@ fn push_fields(
     shape: &Shape,
     fields: &[Pair<Typed>],
 ) -> Result<(), OutOfMemory>
-    ensures { OnOk result (out.new ≡ out.old ++ fields_text shape.now (with_values (json_of model.now.shapes) fields.now)) }
+    ensures { OnOk result (out.new ≡ out.old ++ fields_text (fields_of shape.now (with_values (document_of model.now.shapes) fields.now))) }
 {
     if is_map(shape.kind) {
         return push_entries(alloc, out, model, shape.item, fields);
@@ -181,12 +192,12 @@ fn push_entries(
     item: Option<ShapeId>,
     fields: &[Pair<Typed>],
 ) -> Result<(), OutOfMemory>
-    ensures { OnOk result (out.new ≡ out.old ++ joined_fields (map (entry_field item) (with_values (json_of model.now.shapes) fields.now))) }
+    ensures { OnOk result (out.new ≡ out.old ++ fields_text (map (entry_field item) (with_values (document_of model.now.shapes) fields.now))) }
 {
     let mut before = "";
     for field in fields {
         out.push_ascii(before)?;
-        push_key(alloc, out, &field.key)?;
+        push_key(out, &field.key)?;
         push_item(alloc, out, model, item, &field.value)?;
         before = ", ";
     }
@@ -203,12 +214,12 @@ fn push_spots(
     spots: &[Pair<Spot>],
 ) -> Result<(), OutOfMemory>
     requires { AreSpots fields.now spots.now }
-    ensures { OnOk result (out.new ≡ out.old ++ joined_fields (map (spot_field model.now.shapes fields.now) spots.now)) }
+    ensures { OnOk result (out.new ≡ out.old ++ fields_text (map (spot_field model.now.shapes fields.now) spots.now)) }
 {
     let mut before = "";
     for spot in spots {
         out.push_ascii(before)?;
-        push_key(alloc, out, &spot.key)?;
+        push_key(out, &spot.key)?;
         push_value(
             alloc,
             out,
@@ -222,9 +233,9 @@ fn push_spots(
 }
 
 /// Puts a key and what stands between it and its value.
-fn push_key(alloc: Global, out: &mut Text, key: &Text) -> Result<(), OutOfMemory>
+fn push_key(out: &mut Text, key: &Text) -> Result<(), OutOfMemory>
     ensures { OnOk result (out.new ≡ out.old ++ key_text key.now) }
 {
-    push_quoted(alloc, out, key)?;
+    push_quoted(out, key)?;
     out.push_ascii(": ")
 }

@@ -6,7 +6,7 @@ use denote.Text.{Utf8}
 use Rattle.texts.specs.Ascii.{is_ascii_text}
 use Rattle.texts.specs.Joined.{joined}
 use Rattle.typed_value.specs.declared.typed.Typed.{size-Typed}
-use Rattle.value_texts.proofs.JsonParts.{item_at, entry_at, spot_text}
+use Rattle.value_texts.proofs.JsonParts.{item_text, entry_text, spot_text}
 use Rattle.value_texts.proofs.Marking.{behind}
 use Rattle.value_texts.proofs.writing.+writing.Given as goal
 
@@ -32,16 +32,16 @@ abbrev pub invariant-push_items-loop-value : goal.invariant-push_items-loop-valu
 invariant-push_items-loop-value l = record {
   text : shadow (Utf8 l.before);
   plain : IsTrue (is_ascii_text l.before);
-  due : l.out ++ behind l.before (codes ", ") (map (item_at l.model.shapes l.item) (drop l.value-index l.items))
-      ≡ l.fn.out ++ joined (codes ", ") (map (item_at l.model.shapes l.item) l.items);
+  due : l.out ++ behind l.before (codes ", ") (map (item_text l.model.shapes l.item) (drop l.value-index l.items))
+      ≡ l.fn.out ++ joined (codes ", ") (map (item_text l.model.shapes l.item) l.items);
 }
 
 abbrev pub invariant-push_entries-loop-field : goal.invariant-push_entries-loop-field
 invariant-push_entries-loop-field l = record {
   text : shadow (Utf8 l.before);
   plain : IsTrue (is_ascii_text l.before);
-  due : l.out ++ behind l.before (codes ", ") (map (entry_at l.model.shapes l.item) (drop l.field-index l.fields))
-      ≡ l.fn.out ++ joined (codes ", ") (map (entry_at l.model.shapes l.item) l.fields);
+  due : l.out ++ behind l.before (codes ", ") (map (entry_text l.model.shapes l.item) (drop l.field-index l.fields))
+      ≡ l.fn.out ++ joined (codes ", ") (map (entry_text l.model.shapes l.item) l.fields);
 }
 
 abbrev pub invariant-push_spots-loop-spot : goal.invariant-push_spots-loop-spot

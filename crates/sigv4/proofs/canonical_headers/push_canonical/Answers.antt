@@ -2,7 +2,7 @@ use Rattle.std.proofs.Common.{◌≡◌, ◌+◌, ◌++◌, ◌∷◌, [], drop,
 use Rattle.std.specs.Prelude.{codes, bytes_eq}
 use Rattle.sigv4.specs.Headers.{lowered, canonical_value, canonical_header, canonical_headers}
 use Rattle.sigv4.proofs.HeaderSteps.{header_in, header_out}
-use Rattle.sigv4.proofs.canonical_headers.canonical_fields.Goals as goal
+use Rattle.sigv4.proofs.canonical_headers.push_canonical.Goals as goal
 
 pub loop-name-preserved-then-is : goal.loop-name-preserved-then-is
 loop-name-preserved-then-is c =
@@ -24,7 +24,7 @@ loop-name-preserved c =
     let value : c.in_ok-canonical_value.field-0 ≡ canonical_value item.1 = c.in_ok-canonical_value.ensures ∙ ap canonical_value c.as_str-in-loop-name.ensures.value in
     let other = ap (λ n. bytes_eq n (codes "authorization")) (sym lower) ∙ sym (c.is.ensures.ascii refl) ∙ c.if-is.false in
     let put : c.push.new.self ≡ fields ++ canonical_header item ∷ [] =
-    c.in_ok-push.ensures.ok ∙ ap (λ n. fields ++ (n, c.in_ok-canonical_value.field-0) ∷ []) (c.lower-in-loop-name.view_is ∙ lower)
+    c.in_ok-push.ensures.ok ∙ ap (λ n. fields ++ (n, c.in_ok-canonical_value.field-0) ∷ []) (c.lower.view_is ∙ lower)
     ∙ ap (λ v. fields ++ (lowered item.0, v) ∷ []) value in
     ap (λ hs. hs ++ rest) put ∙ append_assoc fields (canonical_header item ∷ []) rest
     ∙ ap (λ hs. fields ++ hs) (sym (header_in headers index item c.loop-name-test.true c.loop-name-item.is other)) ∙ c.loop-name.invariant
