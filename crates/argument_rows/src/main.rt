@@ -26,6 +26,9 @@ fn answer(alloc: Global, line: &str) -> Result<Text, OutOfMemory> {
         [call, text] if call.as_slice() == b"shorthand".as_slice() => {
             arguments::tree_of(alloc, text.as_slice())
         }
+        [call, text] if call.as_slice() == b"moment".as_slice() => {
+            arguments::instant_of(alloc, text.as_slice())
+        }
         _ => unknown(alloc),
     }
 }

@@ -1,0 +1,6 @@
+mod ClockForms
+mod DateForms
+mod DigitForms
+mod MoreDigits
+mod Steps
+mod TimeForms
