@@ -16,7 +16,7 @@ use Rattle.aws_main.specs.declared.planning.Planned.{Planned}
 use Rattle.aws_main.specs.Causes.{cause_of_unanswered, cause_of_unread, IsFileFault, IsLost, IsOutFault}
 use Rattle.aws_main.specs.Course.{Course, Connects, EndsIn, HasText, IsAnswer, IsAnswered, IsCourse, IsDoneUnlessMemory, IsPlanned, IsRefusal, IsUnhindered}
 use Rattle.aws_main.specs.Course.Course.{refused, answered}
-use Rattle.aws_main.specs.Folder.{Held}
+use Rattle.model_store.specs.Folders.{Held}
 use Rattle.aws_main.proofs.OneDue.{one_due}
 
 -- an answer is Lost only where the outcome is

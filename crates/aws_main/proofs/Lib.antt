@@ -1,12 +1,7 @@
 pub mod Each
 pub mod Finds
 pub mod Ports
-pub mod Orders
-pub mod Searches
-pub mod Versions
 pub mod OneDue
-pub mod OneModel
-pub mod Told
 pub mod Fronts
 pub mod Saying
 pub mod LinePlans

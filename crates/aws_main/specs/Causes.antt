@@ -7,6 +7,9 @@ use Rattle.aws_main.specs.declared.causes.Unbuilt.{Unbuilt}
 use Rattle.aws_main.specs.declared.causes.Unbuilt.TheVariants.{NotBuilt as pure_not_built, OutOfMemory as pure_no_memory}
 use Rattle.aws_main.specs.declared.causes.Unread.{Unread}
 use Rattle.aws_main.specs.declared.causes.Unread.TheVariants.{NotBuilt as read_not_built, Usage as read_usage, BadModel as read_bad_model, NotAdmitted as read_not_admitted, FileFault as read_fault, OutOfMemory as read_no_memory}
+use Rattle.aws_main.specs.declared.causes.UsageFault.TheVariants.{UnknownService}
+use Rattle.model_store.specs.declared.fault.Unread.{Unread as NoModel}
+use Rattle.model_store.specs.declared.fault.Unread.TheVariants.{UnknownService as no_service, BadModel as bad_model, FileFault as no_file, OutOfMemory as no_model_memory}
 use Rattle.aws_main.specs.declared.causes.Unanswered.{Unanswered}
 use Rattle.aws_main.specs.declared.causes.Unanswered.TheVariants.{NotBuilt as answer_not_built, Lost as answer_lost, OutOfMemory as answer_no_memory}
 
@@ -32,6 +35,12 @@ IsOutFault _ = ⊥
 abbrev pub unread_of : Unbuilt → Unread
 unread_of pure_not_built = read_not_built
 unread_of pure_no_memory = read_no_memory
+
+abbrev pub unread_by : NoModel → Unread
+unread_by (no_service service) = read_usage (UnknownService service)
+unread_by (bad_model file place) = read_bad_model file place
+unread_by (no_file path) = read_fault path
+unread_by no_model_memory = read_no_memory
 
 abbrev pub unanswered_of : Unbuilt → Unanswered
 unanswered_of pure_not_built = answer_not_built
@@ -63,12 +72,6 @@ pub record HasLinkCause {T : Type 0} (before now : ℕ) (result : Result T Unans
 -- a front of the bytes was put at the end
 abbrev pub GainsFront : List ℕ → List ℕ → List ℕ → Type 0
 GainsFront bytes before after = (n : ℕ) × (after ≡ before ++ take n bytes)
-
--- what ends a search of the files: a fault at a path of this kind, or want of memory
-abbrev pub FaultsAt : (List ℕ → Type 0) → Unread → Type 0
-FaultsAt P (read_fault path) = P path
-FaultsAt P read_no_memory = Unit {0}
-FaultsAt P _ = ⊥
 
 -- a refusal is this one, or want of memory, which is free
 abbrev pub Refuses : Unread → Unread → Type 0

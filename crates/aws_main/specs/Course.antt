@@ -16,9 +16,10 @@ use Rattle.aws_main.specs.declared.plain_operations.PlainOperation.{PlainOperati
 use Rattle.aws_main.specs.declared.planning.Planned.{Planned}
 use Rattle.aws_main.specs.Causes.{cause_of_unread, cause_of_unanswered, GainsFront}
 use Rattle.aws_main.specs.Due.{IsDue}
-use Rattle.aws_main.specs.Folder.{Held, folders_of, IsLookedAt}
 use Rattle.aws_main.specs.Output.{IsOutput}
 use Rattle.aws_main.specs.Words.{asked_of}
+use Rattle.model_store.specs.Folders.{Held, folders_of}
+use Rattle.model_store.specs.Versions.{IsLookedAt}
 
 -- a request is due of these words, environment and files
 abbrev pub IsPlanned : List (List ℕ) → Held → Option Held → Planned → Type 0

@@ -11,11 +11,14 @@ use Rattle.aws_main.specs.declared.causes.Unread.TheVariants.{NotBuilt, Usage, N
 use Rattle.aws_main.specs.declared.causes.UsageFault.TheVariants.{UnknownOperation}
 use Rattle.aws_main.specs.declared.plain_operations.PlainOperation.{PlainOperation}
 use Rattle.aws_main.specs.declared.planning.Planned.{Planned}
-use Rattle.aws_main.specs.Folder.{Held}
-use Rattle.aws_main.specs.Models.{IsModelOf}
+use Rattle.aws_main.specs.Causes.{unread_by}
 use Rattle.aws_main.specs.Plain.{plain_operation}
 use Rattle.aws_main.specs.Request.{message_of}
 use Rattle.aws_main.specs.Words.{asked_of}
+use Rattle.model_store.specs.declared.fault.Unread.{Unread as NoModel}
+use Rattle.model_store.specs.declared.finding.FoundModel.{FoundModel}
+use Rattle.model_store.specs.Due.{IsModelOf}
+use Rattle.model_store.specs.Folders.{Held, folders_of}
 
 -- an operation, unless it can't be called
 abbrev pub unless_refused : Operation → Option Refusal → Result Operation Unread
@@ -44,14 +47,15 @@ request_of asked model (Ok operation) = request_for asked (plain_operation model
 abbrev pub due_by : Asked → Table → Result Planned Unread
 due_by asked model = request_of asked model (admitted asked.command model)
 
-abbrev pub due_of : Asked → Result Table Unread → Result Planned Unread
-due_of asked (Err refusal) = Err refusal
-due_of asked (Ok model) = due_by asked model
+abbrev pub due_of : Asked → Result FoundModel NoModel → Result Planned Unread
+due_of asked (Err refusal) = Err (unread_by refusal)
+due_of asked (Ok found) = due_by asked found.model
 
 -- what is due of words that ask for something, or for nothing that is built
 abbrev pub IsDueFor : Option Asked → Held → Option Held → Result Planned Unread → Type 0
 IsDueFor None env held due = due ≡ Err NotBuilt
-IsDueFor (Some asked) env held due = (model : Result Table Unread) × IsModelOf env held asked.service model × (due ≡ due_of asked model)
+IsDueFor (Some asked) env held due =
+    (found : Result FoundModel NoModel) × IsModelOf held (folders_of env) asked.service found × (due ≡ due_of asked found)
 
 -- what is due of the words of a line, the environment and the files: the words come first, then the
 -- service's model, then what it says of the operation

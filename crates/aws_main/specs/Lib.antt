@@ -2,9 +2,7 @@ pub mod Causes
 pub mod Course
 pub mod Due
 pub mod Finding
-pub mod Folder
 pub mod Messages
-pub mod Models
 pub mod Output
 pub mod Plain
 pub mod Request

@@ -1,7 +1,7 @@
 ghost use Rattle.std.specs.Prelude.{◌≡◌};
 ghost use Rattle.aws_main.specs.declared.causes.Unread.TheVariants as unread;
 ghost use Rattle.aws_main.specs.declared.causes.Unbuilt.TheVariants as unbuilt;
-ghost use Rattle.aws_main.specs.Causes.{status_of, unread_of, unanswered_of, cause_of_unread, cause_of_unanswered};
+ghost use Rattle.aws_main.specs.Causes.{status_of, unread_of, unread_by, unanswered_of, cause_of_unread, cause_of_unanswered};
 
 use aws_world::LinkFault;
 use json_doc::{OutOfMemory, Text};
@@ -94,6 +94,21 @@ impl From<OutOfMemory> for Unread {
 
     fn from(_error: OutOfMemory) -> Unread {
         Unread::OutOfMemory
+    }
+}
+
+impl From<model_store::Unread> for Unread {
+    ghost from_gives = { λ e f. f ≡ unread_by e };
+
+    fn from(error: model_store::Unread) -> Unread {
+        match error {
+            model_store::Unread::UnknownService(service) => {
+                Unread::Usage(UsageFault::UnknownService(service))
+            }
+            model_store::Unread::BadModel(file, place) => Unread::BadModel(file, place),
+            model_store::Unread::FileFault(path) => Unread::FileFault(path),
+            model_store::Unread::OutOfMemory => Unread::OutOfMemory,
+        }
     }
 }
 

@@ -3,7 +3,7 @@ ghost use Rattle.std.specs.Prelude.{◌≡◌, ℕ, List, Result, Some};
 ghost use Rattle.aws_main.specs.declared.causes.Unread.{Unread as Refused};
 ghost use Rattle.aws_main.specs.declared.planning.Planned.{Planned as Request};
 ghost use Rattle.aws_main.specs.Due.{IsDue};
-ghost use Rattle.aws_main.specs.Folder.{Held};
+ghost use Rattle.model_store.specs.Folders.{Held};
 
 /// One thing is due of a line, an environment and files at most: one request, or one reason why there
 /// is none.

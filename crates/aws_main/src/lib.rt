@@ -4,17 +4,14 @@
 mod answering;
 mod asking;
 mod causes;
-mod folders;
 mod laws;
 mod literals;
 mod messages;
-mod models;
 mod outputs;
 mod plain_operations;
 mod planning;
 mod requests;
 mod running;
-mod searching;
 mod sinks;
 
 pub use causes::{Cause, Ending, UsageFault};

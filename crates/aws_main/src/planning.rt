@@ -6,12 +6,12 @@ ghost use Rattle.aws_main.specs.Due.{admitted, due_by, is_memory};
 
 use crate::asking::{Asked, read_words};
 use crate::causes::{Unread, UsageFault};
-use crate::models::find_model;
 use crate::plain_operations::{PlainOperation, plain_operation};
 use crate::requests::message;
 use aws_world::{Env, Files};
 use http_exchange::wire;
 use json_doc::{Bytes, OutOfMemory, Text};
+use model_store::{find_model, model_folders};
 use service_model::{Model, Operation, Refusal};
 use std::alloc::Global;
 
@@ -39,11 +39,12 @@ pub fn plan<F: Files>(
         Ok(asked) => asked,
         Err(refusal) => return Err(refusal.into()),
     };
-    let model = match find_model(alloc, env, files, &asked.service) {
-        Ok(model) => model,
-        Err(refusal) => return Err(refusal),
+    let folders = model_folders(alloc, env)?;
+    let found = match find_model(alloc, files, folders.as_slice(), &asked.service) {
+        Ok(found) => found,
+        Err(refusal) => return Err(refusal.into()),
     };
-    request(alloc, asked, &model)
+    request(alloc, asked, &found.model)
 }
 
 /// The request of what is asked for, by the service's model.

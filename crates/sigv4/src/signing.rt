@@ -72,11 +72,7 @@ fn headers_at(
 }
 
 /// The moment's header, and that of the session's token where there is a session.
-fn stamp(
-    alloc: Global,
-    signer: &Signer,
-    seconds: u64,
-) -> Result<List<(Text, Text)>, OutOfMemory>
+fn stamp(alloc: Global, signer: &Signer, seconds: u64) -> Result<List<(Text, Text)>, OutOfMemory>
     ensures { IfOk result (λ made. made ≡ stamp signer.now seconds) }
 {
     let mut made = List::new(alloc);

@@ -1,8 +1,0 @@
-use Rattle.std.proofs.Common.{◌≡◌, map}
-use Rattle.std.specs.Prelude.{flat_map}
-use Rattle.aws_main.specs.Folder.{part_of}
-use Rattle.aws_main.proofs.folders.parts.Given as goal
-
--- the parts so far
-abbrev pub invariant-loop-part : goal.invariant-loop-part
-invariant-loop-part l = l.made ≡ flat_map part_of (map (λ part. part.now) l.yielded)

@@ -1,0 +1,9 @@
+pub mod Orders
+pub mod Versions
+pub mod Searches
+pub mod FirstFiles
+pub mod Told
+pub mod OneModel
+pub mod Saying
+pub mod Answering
+pub mod OneDue

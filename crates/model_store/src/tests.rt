@@ -1,0 +1,137 @@
+//! Searches of files in memory. What is expected follows from the rules by hand.
+use crate::{
+    Unread, find_model, find_paginators, find_partitions, find_rules, find_waiters, model_folders,
+};
+use aws_world::{Env, MemFiles};
+use std::alloc::Global;
+use std::test::Fail;
+use texts::{Bytes, List, OutOfMemory, Text};
+
+const MODEL: &str =
+    r#"{"metadata":{"protocol":"rest-json","endpointPrefix":"s"},"operations":{},"shapes":{}}"#;
+
+/// The file of a version that is taken is a model; the others are no JSON.
+const HELD: [(&str, &str); 8] = [
+    ("m/shelf/2023/service-2.json", "{"),
+    ("m/shelf/2024/service-2.json", MODEL),
+    ("n/shelf/2024/service-2.json", "{"),
+    ("n/shelf/2025/waiters-2.json", "{"),
+    ("m/a/b/1/service-2.json", MODEL),
+    ("n/shelf/2024/paginators-1.json", r#"{"pagination":{}}"#),
+    ("n/shelf/2024/waiters-2.json", r#"{"waiters":[]}"#),
+    ("n/partitions.json", r#"{"partitions":[]}"#),
+];
+
+/// Files in memory, of which calls of these numbers fail.
+fn held(alloc: Global, fails: &[u64]) -> Result<MemFiles, OutOfMemory> {
+    let mut files = List::new(alloc);
+    for (path, content) in &HELD {
+        let content = Bytes::from_slice(alloc, content.as_bytes())?;
+        files.push((Text::from_str(alloc, path)?, content))?;
+    }
+    let fails = List::from_vec(Vec::from_slice(alloc, fails)?);
+    Ok(MemFiles::new(alloc, files, fails))
+}
+
+/// Texts, separated by blanks.
+fn texts(alloc: Global, line: &str) -> Result<List<Text>, OutOfMemory> {
+    let mut texts = List::new(alloc);
+    for word in line.split(' ') {
+        texts.push(Text::from_str(alloc, word)?)?;
+    }
+    Ok(texts)
+}
+
+/// What was found, or the last text of the refusal.
+fn outcome(answer: Result<Text, Unread>) -> Result<Text, OutOfMemory> {
+    match answer {
+        Ok(found) => Ok(found),
+        Err(Unread::UnknownService(service)) => Ok(service),
+        Err(Unread::BadModel(_, place)) => Ok(place),
+        Err(Unread::FileFault(path)) => Ok(path),
+        Err(Unread::OutOfMemory) => Err(OutOfMemory),
+    }
+}
+
+/// The version that a service has in these folders, or the last text of the refusal.
+fn version(
+    alloc: Global,
+    folders: &str,
+    service: &str,
+    fails: &[u64],
+) -> Result<Text, OutOfMemory> {
+    let mut files = held(alloc, fails)?;
+    let folders = texts(alloc, folders)?;
+    let service = Text::from_str(alloc, service)?;
+    let found = find_model(alloc, &mut files, folders.as_slice(), &service);
+    outcome(found.map(|found| found.version))
+}
+
+#[test]
+fn versions_of_services(rt: HostRuntime) -> Result<(), Fail> {
+    let rows = [
+        ("m n", "shelf", "2024"),
+        ("n m", "shelf", "json"),
+        ("m", "a/b", "a/b"),
+        ("m/a m", ".", "."),
+        ("m/a m", "..", ".."),
+    ];
+    for (folders, service, expected) in rows {
+        let told = version(rt.alloc(), folders, service, &[])?;
+        assert_eq!(rt; told.as_str(), expected, "{service}");
+    }
+    let told = version(rt.alloc(), "n m", "shelf", &[2])?;
+    assert_eq!(rt; told.as_str(), "n/shelf/2025/service-2.json");
+    Ok(())
+}
+
+#[test]
+fn a_long_file(rt: HostRuntime) -> Result<(), Fail> {
+    let alloc = rt.alloc();
+    let mut files = List::new(alloc);
+    let path = Text::from_str(alloc, "m/shelf/1/service-2.json")?;
+    let blanks = Vec::from_elem(alloc, b' ', 33_554_433)?;
+    files.push((path, Bytes::from_vec(blanks)))?;
+    let mut files = MemFiles::new(alloc, files, List::new(alloc));
+    let folders = texts(alloc, "m")?;
+    let service = Text::from_str(alloc, "shelf")?;
+    let found = find_model(alloc, &mut files, folders.as_slice(), &service);
+    assert!(rt; matches!(found, Err(Unread::BadModel(_, place)) if place.is("too long")));
+    Ok(())
+}
+
+#[test]
+fn other_files(rt: HostRuntime) -> Result<(), Fail> {
+    let alloc = rt.alloc();
+    let mut files = held(alloc, &[7])?;
+    let folders = texts(alloc, "m n")?;
+    let folders = folders.as_slice();
+    let service = Text::from_str(alloc, "shelf")?;
+    let version = Text::from_str(alloc, "2024")?;
+    let rows = find_paginators(alloc, &mut files, folders, &service, &version);
+    assert!(rt; matches!(rows, Ok(Some(_))));
+    let waiters = find_waiters(alloc, &mut files, folders, &service, &version);
+    assert!(rt; matches!(waiters, Err(Unread::BadModel(_, place)) if place.is("waiters")));
+    let rules = find_rules(alloc, &mut files, folders, &service, &version);
+    assert!(rt; matches!(rules, Ok(None)));
+    let partitions = find_partitions(alloc, &mut files, folders);
+    assert!(rt; matches!(partitions, Err(Unread::FileFault(path)) if path.is("m/partitions.json")));
+    let partitions = find_partitions(alloc, &mut files, folders);
+    assert!(rt; partitions.is_ok());
+    let partitions = find_partitions(alloc, &mut files, &folders[..1]);
+    assert!(rt; matches!(partitions, Err(Unread::BadModel(_, place)) if place.is("absent")));
+    Ok(())
+}
+
+#[test]
+fn folders_of_models(rt: HostRuntime) -> Result<(), Fail> {
+    let alloc = rt.alloc();
+    let mut pairs = List::new(alloc);
+    for (name, value) in [("HOME", "/h"), ("AWS_DATA_PATH", "a::b:")] {
+        pairs.push((Text::from_str(alloc, name)?, Text::from_str(alloc, value)?))?;
+    }
+    let folders = model_folders(alloc, &Env { pairs })?;
+    let expected = texts(alloc, "a b /h/.aws/models")?;
+    assert!(rt; folders.iter().eq(expected.iter()));
+    Ok(())
+}
