@@ -1,14 +1,13 @@
 -- The bytes of a request, as a head of the grammar and a body.
-use Rattle.std.proofs.Common.{◌≡◌, ◌⊎◌, inl, inr, ℕ, zero, suc, ◌+◌, ◌/◌, ◌%◌, ◌<◌, ◌≤◌, ◌==◌, Bool, true, false, not, ◌&&◌, ◌||◌, if◌then◌else◌, List, [], ◌∷◌, ◌++◌, length, map, refl, sym, ap, subst, ◌∙◌, arith, append_assoc, append-nil}
-use Rattle.std.specs.Prelude.{codes, flat_map, encode_utf8, encode_utf8_all, filter}
-use Rattle.std.proofs.lemmas.List.Folds.{flat_map-map}
+use Rattle.std.proofs.Common.{◌≡◌, ℕ, Bool, true, false, if◌then◌else◌, List, [], ◌∷◌, ◌++◌, length, map, refl, sym, ap, ◌∙◌, append_assoc, append-nil}
+use Rattle.std.specs.Prelude.{codes, flat_map, encode_utf8_all}
 use Rattle.std.proofs.lemmas.Grind.{flat_map-append}
 use Rattle.std.proofs.lemmas.Str.{encodes-append}
 use Rattle.std.specs.Fmt.{decimal}
 use Rattle.aws_world.specs.declared.message.Message.{Message}
-use Rattle.httparse.specs.Grammar.{Field, LineEnd, crlf, print_end, print_field, print_section, RequestHead, print_request}
+use Rattle.httparse.specs.Grammar.{Field, crlf, print_field, print_section, RequestHead, print_request}
 use Rattle.httparse.proofs.GrammarLemmas.{cons-append, print_request-append}
-use Rattle.http_exchange.specs.Wire.{line, header, request_line, parameters, has_length, length_line, head_of, wire_of}
+use Rattle.http_exchange.specs.Wire.{line, header, request_line, parameters, has_length, head_of, wire_of}
 use Rattle.http_exchange.proofs.PlainBytes.{same_bytes}
 use Rattle.http_exchange.specs.ReadBack.{target_of, length_fields, fields_of}
 

@@ -1,6 +1,6 @@
 -- Exchanges one after another.
-use Rattle.std.proofs.Common.{◌≡◌, ℕ, Bool, suc, List, [], ◌∷◌, ◌++◌, length, Option, refl, sym, ap, ◌∙◌, subst, append_assoc, append-nil}
-use Rattle.aws_world.proofs.Told.{tells_none, tells_both, tells_weaker}
+use Rattle.std.proofs.Common.{◌≡◌, Bool, suc, List, [], ◌∷◌, ◌++◌, length, Option, refl, sym, ap, ◌∙◌, subst, append_assoc, append-nil}
+use Rattle.aws_world.proofs.Told.{tells_none, tells_both}
 use Rattle.aws_world.specs.Told.{Tells}
 use Rattle.aws_world.specs.declared.connection.Connection.{Connection}
 use Rattle.aws_world.specs.declared.message.Target.{Target}

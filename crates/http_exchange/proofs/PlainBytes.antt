@@ -1,17 +1,19 @@
 -- Texts by their bytes, in ASCII and past it.
-use Rattle.std.proofs.Common.{◌≡◌, ⊎_elim, inl, inr, ℕ, zero, suc, ◌+◌, ◌/◌, ◌%◌, ◌==◌, ◌<◌, ◌≤◌, Bool, true, false, not, ◌&&◌, ◌||◌, nat_lt, List, [], ◌∷◌, ◌++◌, length, get_or, append-nil, refl, sym, ap, subst, ◌∙◌, if◌then◌else◌, arith}
+use Rattle.std.proofs.Common.{◌≡◌, inl, inr, ℕ, zero, suc, ◌/◌, ◌%◌, ◌==◌, ◌<◌, ◌≤◌, Bool, true, false, nat_lt, List, [], ◌∷◌, ◌++◌, length, reverse, get_or, append-nil, refl, sym, ap, ◌∙◌, if◌then◌else◌, arith}
 use Rattle.std.specs.Prelude.{nat_le, nat_eq, encode_utf8, encode_utf8_all}
 use Rattle.std.specs.Cmp.Derive.{both_true}
 use Rattle.std.specs.Fmt.{decimal, digits, digits_onto, digit_glyph}
 use Rattle.std.specs.List.{All, list_all}
-use Rattle.std.specs.Str.{IsUtf8, IsAscii}
-use Rattle.std.proofs.lemmas.Bool.{agree_below, agree_below_at, and_parts, cases_lt, eqb-true, false_from_ne_true, le-leb, lt-ltb, ltb-true, leb-true, not_from_false, or_right}
+use Rattle.std.specs.Str.{IsUtf8}
+use Rattle.std.proofs.lemmas.Bool.{agree_below, agree_below_at, and_parts, cases_lt, eqb-true, false_from_ne_true, le-leb, lt-ltb, ltb-true, leb-true, not_from_false, or_from, or_right}
 use Rattle.std.proofs.lemmas.Bool.Decides.{nat_tests}
 use Rattle.std.proofs.lemmas.List.Elements.{All-nil, All-cons}
 use Rattle.std.proofs.lemmas.List.Folds.{list_all-append}
+use Rattle.std.proofs.lemmas.List.Sums.{AllPass-from_list_all, list_all-from_AllPass}
 use Rattle.std.proofs.lemmas.Str.{encode_ascii, inside_one, length-encode, len_utf8_bounds, IsUtf8-from_ascii}
 use Rattle.std.proofs.lemmas.Str.Ascii.{IsAscii-from_all}
-use Rattle.httparse.specs.Grammar.{is_token_byte, is_uri_byte, is_value_byte, is_token}
+use Rattle.httparse.specs.Grammar.{is_token_byte, is_uri_byte, is_value_byte, is_token, is_ows, skip_ows, trim_ows}
+use Rattle.httparse.proofs.TrimLemmas.{AllPass-reverse, trim_ows_space}
 use Rattle.http_exchange.specs.ReadBack.{is_visible, is_field_character}
 
 -- ---- tests of each character
@@ -128,24 +130,58 @@ value_bytes (c ∷ cs) h =
 
 -- ---- digits
 
-all_glyphs : agree_below (λ d. is_field_character (digit_glyph false d)) (λ d. true) 10 ≡ true
+all_glyphs : agree_below (λ d. is_visible (digit_glyph false d)) (λ d. true) 10 ≡ true
 all_glyphs = refl
 
-clean_glyph : (n : ℕ) → is_field_character (digit_glyph false (n % 10)) ≡ true
-clean_glyph n = agree_below_at (λ d. is_field_character (digit_glyph false d)) (λ d. true) 10 (n % 10) all_glyphs (omega arith)
+visible_glyph : (n : ℕ) → is_visible (digit_glyph false (n % 10)) ≡ true
+visible_glyph n = agree_below_at (λ d. is_visible (digit_glyph false d)) (λ d. true) 10 (n % 10) all_glyphs (omega arith)
 
-either_clean : (b : Bool) (xs ys : List ℕ) → list_all is_field_character xs ≡ true → list_all is_field_character ys ≡ true
-    → list_all is_field_character (if b then xs else ys) ≡ true
-either_clean true xs ys h k = h
-either_clean false xs ys h k = k
+either_visible : (b : Bool) (xs ys : List ℕ) → list_all is_visible xs ≡ true → list_all is_visible ys ≡ true
+    → list_all is_visible (if b then xs else ys) ≡ true
+either_visible true xs ys h k = h
+either_visible false xs ys h k = k
 
-clean_digits : (k n : ℕ) (behind : List ℕ) → list_all is_field_character behind ≡ true → list_all is_field_character (digits_onto k 10 false n behind) ≡ true
-clean_digits zero n behind h = h
-clean_digits (suc k) n behind h =
+visible_digits : (k n : ℕ) (behind : List ℕ) → list_all is_visible behind ≡ true → list_all is_visible (digits_onto k 10 false n behind) ≡ true
+visible_digits zero n behind h = h
+visible_digits (suc k) n behind h =
     let more = digit_glyph false (n % 10) ∷ behind in
-    let clean : list_all is_field_character more ≡ true = both_true (clean_glyph n) h in
-    either_clean (n / 10 == 0) more (digits_onto k 10 false (n / 10) more) clean (clean_digits k (n / 10) more clean)
+    let visible : list_all is_visible more ≡ true = both_true (visible_glyph n) h in
+    either_visible (n / 10 == 0) more (digits_onto k 10 false (n / 10) more) visible (visible_digits k (n / 10) more visible)
+
+pub visible_decimal : (n : ℕ) → list_all is_visible (decimal n) ≡ true
+unfolding digits
+visible_decimal n = visible_digits 64 n [] refl
+
+visible_field : (c : ℕ) → is_visible c ≡ true → is_field_character c ≡ true
+visible_field c h =
+    let parts = and_parts (nat_lt 32 c) (nat_lt c 127) h in
+    let low = ltb-true 32 c parts.0 in
+    let top = ltb-true c 127 parts.1 in
+    both_true (le-leb 32 c (omega (arith, low))) (not_from_false (nat_eq c 127) (false_from_ne_true (nat_eq c 127) (λ e. omega (arith, top, eqb-true c 127 e))))
 
 pub clean_decimal : (n : ℕ) → list_all is_field_character (decimal n) ≡ true
-unfolding digits
-clean_decimal n = clean_digits 64 n [] refl
+clean_decimal n = each_so is_visible is_field_character visible_field (decimal n) (visible_decimal n)
+
+-- ---- blanks
+
+not_ows : (c : ℕ) → is_visible c ≡ true → is_ows c ≡ false
+not_ows c h =
+    let low = ltb-true 32 c (and_parts (nat_lt 32 c) (nat_lt c 127) h).0 in
+    or_from (c == 32) (c == 9) (false_from_ne_true (c == 32) (λ e. omega (arith, low, eqb-true c 32 e)))
+    (false_from_ne_true (c == 9) (λ e. omega (arith, low, eqb-true c 9 e)))
+
+kept_whole : (cs : List ℕ) → list_all is_visible cs ≡ true → skip_ows cs ≡ cs
+kept_whole [] h = refl
+kept_whole (c ∷ cs) h = ap (λ t. if t then skip_ows cs else c ∷ cs) (not_ows c (and_parts (is_visible c) (list_all is_visible cs) h).0)
+
+turned : (cs : List ℕ) → list_all is_visible cs ≡ true → list_all is_visible (reverse cs) ≡ true
+turned cs h = list_all-from_AllPass is_visible (reverse cs) (AllPass-reverse is_visible cs (AllPass-from_list_all is_visible cs h))
+
+-- the blank that is written before a value is one around it
+pub trim_behind : (bytes : List ℕ) → trim_ows (32 ∷ bytes) ≡ trim_ows bytes
+unfolding trim_ows
+trim_behind bytes = refl
+
+-- nothing is cut off where nothing is blank
+pub trim_same : (cs : List ℕ) → list_all is_visible cs ≡ true → trim_ows cs ≡ cs
+trim_same cs h = sym (trim_behind cs) ∙ trim_ows_space cs (kept_whole cs h) (kept_whole (reverse cs) (turned cs h))

@@ -1,5 +1,5 @@
 -- The head of a request is one of the grammar, and the one that its bytes are read as.
-use Rattle.std.proofs.Common.{◌≡◌, ℕ, ◌<◌, Bool, true, false, not, ◌&&◌, ◌||◌, cond, nat_lt, if◌then◌else◌, List, [], ◌∷◌, ◌++◌, length, map, refl, sym, ap, subst, ◌∙◌, arith, append-nil, append_assoc}
+use Rattle.std.proofs.Common.{◌≡◌, ℕ, ◌<◌, Bool, true, false, not, ◌&&◌, cond, nat_lt, if◌then◌else◌, List, [], ◌∷◌, ◌++◌, length, map, refl, sym, ap, subst, ◌∙◌, arith, append-nil, append_assoc}
 use Rattle.std.specs.Prelude.{codes, encode_utf8_all, filter}
 use Rattle.std.specs.Cmp.Derive.{both_true}
 use Rattle.std.specs.Fmt.{decimal}
@@ -10,12 +10,12 @@ use Rattle.std.proofs.lemmas.List.Elements.{All-nil, All-cons}
 use Rattle.std.proofs.lemmas.List.Folds.{list_all-append}
 use Rattle.std.proofs.lemmas.List.Sums.{AllPass-from_list_all}
 use Rattle.aws_world.specs.declared.message.Message.{Message}
-use Rattle.httparse.specs.Grammar.{AllPass, IsToken, IsField, RequestHead, IsRequestHead, ReadsRequest, is_token, is_token_byte, is_uri_byte, is_value_byte, trim_ows}
+use Rattle.httparse.specs.Grammar.{IsToken, IsField, IsRequestHead, ReadsRequest, is_token, is_token_byte, is_uri_byte, is_value_byte, trim_ows}
 use Rattle.httparse.specs.Spans.{name_and_value}
 use Rattle.httparse.proofs.GrammarLemmas.{request_unique}
 use Rattle.http_exchange.specs.Wire.{has_length, wire_of}
-use Rattle.http_exchange.specs.ReadBack.{target_of, length_fields, fields_of, is_framing, is_field_character, is_clean_header, IsClean, as_read, fields_in, Says, ReadsBack}
-use Rattle.http_exchange.proofs.PlainBytes.{same_bytes, visible_ascii, visible_uris, utf8_from, name_same, value_bytes, clean_decimal}
+use Rattle.http_exchange.specs.ReadBack.{target_of, length_fields, fields_of, is_framing, is_field_character, is_clean_header, IsClean, as_read, Says, ReadsBack}
+use Rattle.http_exchange.proofs.PlainBytes.{same_bytes, visible_ascii, visible_uris, utf8_from, name_same, value_bytes, visible_decimal, clean_decimal, trim_behind, trim_same}
 use Rattle.http_exchange.proofs.HeadBytes.{written, head_in, head-bytes}
 
 abbrev Fields : Type 0
@@ -99,10 +99,8 @@ is_head m clean =
 
 -- ---- the fields as they are read
 
--- the blank that is written before a value is one around it
 one_read : (h : List ℕ × List ℕ) → name_and_value (written h) ≡ as_read h
-unfolding trim_ows
-one_read h = refl
+one_read h = ap (λ value. let field : List ℕ × List ℕ = (encode_utf8_all h.0, value) in field) (trim_behind (encode_utf8_all h.1))
 
 all_read : (hs : Fields) → map name_and_value (map written hs) ≡ map as_read hs
 all_read [] = refl
@@ -143,13 +141,25 @@ framing_fields m clean =
     ∙ ap (λ fs. map as_read (length_fields m) ++ fs) (left_out close [] (ap is_framing (same_bytes (codes "Connection") refl)))
     ∙ append-nil (map as_read (length_fields m))
 
+-- a length is read as it is told
+length_read : (n : ℕ) → as_read (codes "Content-Length", decimal n) ≡ (codes "Content-Length", decimal n)
+length_read n =
+    let value = ap trim_ows (same_bytes (decimal n) (visible_ascii (decimal n) (visible_decimal n))) ∙ trim_same (decimal n) (visible_decimal n) in
+    ap (λ name. let field : List ℕ × List ℕ = (name, trim_ows (encode_utf8_all (decimal n))) in field) (same_bytes (codes "Content-Length") refl)
+    ∙ ap (λ text. let field : List ℕ × List ℕ = (codes "Content-Length", text) in field) value
+
+lengths_read : (m : Message) (b : Bool) → map as_read (if b then (codes "Content-Length", decimal (length m.body)) ∷ [] else [])
+    ≡ (if b then (codes "Content-Length", decimal (length m.body)) ∷ [] else [])
+lengths_read m true = ap (λ h. h ∷ []) (length_read (length m.body))
+lengths_read m false = refl
+
 says : (m : Message) → IsClean m → Says m (head_in m)
 says m clean = record {
   method = refl;
   target = refl;
   version = refl;
   fields = all_read (fields_of m);
-  framing = ap (filter (λ f. is_framing f.0)) (all_read (fields_of m)) ∙ framing_fields m clean.headers;
+  framing = ap (filter (λ f. is_framing f.0)) (all_read (fields_of m)) ∙ framing_fields m clean.headers ∙ lengths_read m (has_length m);
 }
 
 pub reads_back : (m : Message) → IsClean m → ReadsBack m

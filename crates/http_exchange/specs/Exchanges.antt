@@ -1,5 +1,5 @@
 -- Exchanges one after another, as what they do to the list of connections that a link has made.
-use Rattle.std.specs.Prelude.{◌≡◌, ℕ, ◌+◌, Bool, List, [], ◌∷◌, ◌++◌, length, ◌↔◌}
+use Rattle.std.specs.Prelude.{◌≡◌, ℕ, Bool, List, [], ◌∷◌, ◌++◌, length, ◌↔◌}
 use Rattle.aws_world.specs.declared.connection.Connection.{Connection}
 use Rattle.aws_world.specs.declared.message.Target.{Target}
 use Rattle.http_exchange.specs.Exchange.{AddsExchange}

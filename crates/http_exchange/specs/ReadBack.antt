@@ -54,13 +54,13 @@ abbrev pub fields_in : RequestHead → List (List ℕ × List ℕ)
 fields_in head = map name_and_value head.fields
 
 -- a head says this message: its method, its target and its fields; and of those that say where the body ends it
--- has the length of the message's body at most
+-- has the length of the message's body, where that is told, and no other
 pub record Says (m : Message) (head : RequestHead) : Type 0 where
   pub method : head.method ≡ encode_utf8_all m.method
   pub target : head.target ≡ encode_utf8_all (target_of m)
   pub version : head.minor ≡ 1
   pub fields : fields_in head ≡ map as_read (fields_of m)
-  pub framing : filter (λ f. is_framing f.0) (fields_in head) ≡ map as_read (length_fields m)
+  pub framing : filter (λ f. is_framing f.0) (fields_in head) ≡ length_fields m
 
 -- the bytes of a request begin with a head, and whatever head they are read as, it says the message, and what is
 -- behind it is the body
