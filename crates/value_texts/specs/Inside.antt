@@ -1,6 +1,6 @@
--- Words of private contracts alone: where the values of members stand among the fields of a value, and the
--- texts of documents' parts.
-use Rattle.std.specs.Prelude.{ℕ, ◌<◌, List, [], ◌++◌, map, length, get_or, codes}
+-- Words of private contracts alone: where the values of members stand among the fields of a value, the texts of
+-- documents' parts, and which values can have times in them.
+use Rattle.std.specs.Prelude.{ℕ, ◌<◌, Bool, true, false, List, [], ◌++◌, map, length, get_or, codes}
 use Rattle.std.specs.List.{All}
 use Rattle.json_doc.specs.Compact.{compact_of}
 use Rattle.json_doc.specs.declared.doc.Doc.{Doc}
@@ -9,6 +9,7 @@ use Rattle.service_model.specs.declared.shape.Shape.{Shape}
 use Rattle.texts.specs.Joined.{joined}
 use Rattle.texts.specs.declared.pairs.Pair.{Pair}
 use Rattle.typed_value.specs.declared.typed.Typed.{Typed}
+use Rattle.typed_value.specs.declared.typed.Typed.TheOpen.{Typed-F}
 use Rattle.typed_value.specs.declared.typed.Typed.TheVariants.{Null}
 use Rattle.value_texts.specs.declared.fields.Spot.{Spot}
 use Rattle.value_texts.specs.Documents.{field, document_of}
@@ -45,3 +46,10 @@ fields_text ps = joined (codes ", ") (map field_text ps)
 -- the same of the texts of items
 abbrev pub items_text : List (List ℕ) → List ℕ
 items_text texts = joined (codes ", ") texts
+
+-- a time can stand in it
+abbrev pub can_hold_time : {X : Type 0} → Typed-F X → Bool
+can_hold_time (Typed-F.Moment t) = true
+can_hold_time (Typed-F.Items xs) = true
+can_hold_time (Typed-F.Fields ps) = true
+can_hold_time others = false

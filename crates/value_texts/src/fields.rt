@@ -55,7 +55,7 @@ pub(crate) fn given_spots(
     ensures values { IfOk result (λ spots. (shapes : List Shape) → map (spot_field shapes fields.now) spots
         ≡ put_all [] (given_fields shapes (filter (is_in_body is_json) members.now) fields.now)) }
 {
-    let mut spots = Pairs::new(alloc);
+    let mut spots = Pairs::with_capacity(alloc, fields.len())?;
     for member in members {
         if !is_in_body(is_json, member) {
             continue;
@@ -78,7 +78,7 @@ pub(crate) fn member_spots(
     ensures values { IfOk result (λ spots. (shapes : List Shape) → map (spot_field shapes fields.now) spots
         ≡ put_all [] (flat_map (member_field members.now) (with_values (document_of shapes) fields.now))) }
 {
-    let mut spots = Pairs::new(alloc);
+    let mut spots = Pairs::with_capacity(alloc, fields.len())?;
     for (at, field) in fields.iter().enumerate() {
         let Some(member) = member_named(members, &field.key) else {
             continue;

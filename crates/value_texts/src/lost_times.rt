@@ -2,6 +2,8 @@
 ghost use Rattle.std.specs.Prelude.{◌≡◌};
 ghost use Rattle.std.specs.List.{list_any};
 ghost use Rattle.typed_value.specs.Fits.{with_values};
+ghost use Rattle.typed_value.specs.declared.typed.Typed.{out-Typed};
+ghost use Rattle.value_texts.specs.Inside.{can_hold_time};
 ghost use Rattle.value_texts.specs.LostTimes.{is_lost, is_lost_moment, item_is_lost, field_is_lost, fields_are_lost};
 
 use crate::fields::member_named;
@@ -25,6 +27,13 @@ pub fn is_lost(model: &Model, usual: TimeForm, slot: Slot, value: &Typed) -> boo
         Typed::Fields(fields) => fields_are_lost(model, usual, shape, fields.as_slice()),
         _ => false,
     }
+}
+
+/// Whether a time can stand in a value: the shapes of others need no look.
+fn can_hold_time(value: &Typed) -> bool
+    ensures { result ≡ can_hold_time (out-Typed value.now) }
+{
+    matches!(value, Typed::Moment(_) | Typed::Items(_) | Typed::Fields(_))
 }
 
 fn is_lost_moment(form: TimeForm, moment: i64) -> bool
@@ -67,6 +76,9 @@ fn fields_are_lost(model: &Model, usual: TimeForm, shape: &Shape, fields: &[Pair
 fn field_is_lost(model: &Model, usual: TimeForm, shape: &Shape, field: &Pair<Typed>) -> bool
     ensures { result ≡ field_is_lost shape.now (record { key = field.now.key; value = is_lost model.now.shapes usual field.now.value }) }
 {
+    if !can_hold_time(&field.value) {
+        return false;
+    }
     if is_map(shape.kind) {
         return match shape.item {
             Some(id) => is_lost(model, usual, Slot::of_shape(id), &field.value),
