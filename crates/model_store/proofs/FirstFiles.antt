@@ -12,11 +12,11 @@ from_here : (files : Held) (folders : List (List ℕ)) (tail folder : List ℕ) 
 from_here files folders tail folder at inside is =
     at_drop_more (λ fs. first_at files fs tail) folders at folder inside ∙ ap (λ f. first_at files (f ∷ drop (at + 1) folders) tail) (sym is)
 
-passed_by : (there : Option (List ℕ)) (others : List (Option (List ℕ))) → there ≡ None → first_there (there ∷ others) ≡ first_there others
+pub passed_by : (there : Option (List ℕ)) (others : List (Option (List ℕ))) → there ≡ None → first_there (there ∷ others) ≡ first_there others
 passed_by None others none = refl
 passed_by (Some bytes) others none = cc
 
-taken_first : (there : Option (List ℕ)) (others : List (Option (List ℕ))) (file : ModelFile) → IsFile there file → IsFile (first_there (there ∷ others)) file
+pub taken_first : (there : Option (List ℕ)) (others : List (Option (List ℕ))) (file : ModelFile) → IsFile there file → IsFile (first_there (there ∷ others)) file
 taken_first None others file is = absurd is
 taken_first (Some bytes) others file is = is
 

@@ -2,6 +2,7 @@ pub mod Orders
 pub mod Versions
 pub mod Searches
 pub mod FirstFiles
+pub mod FirstModels
 pub mod Told
 pub mod OneModel
 pub mod Saying

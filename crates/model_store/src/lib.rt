@@ -17,5 +17,5 @@ pub use finding::{
     FoundModel, find_model, find_paginators, find_partitions, find_rules, find_waiters,
 };
 pub use folders::model_folders;
-pub use laws::{one_file_is_due, one_model_is_due};
+pub use laws::{newest_is_first, one_file_is_due, one_model_is_due};
 pub use searching::{MOST_FILE_BYTES, ModelFile, Version};

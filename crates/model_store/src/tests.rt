@@ -10,13 +10,16 @@ use texts::{Bytes, List, OutOfMemory, Text};
 const MODEL: &str =
     r#"{"metadata":{"protocol":"rest-json","endpointPrefix":"s"},"operations":{},"shapes":{}}"#;
 
-/// The file of a version that is taken is a model; the others are no JSON.
-const HELD: [(&str, &str); 8] = [
+/// Files by their paths: versions of a service in two folders, models that no plain word leads to, and
+/// other files of the service.
+const HELD: [(&str, &str); 10] = [
     ("m/shelf/2023/service-2.json", "{"),
     ("m/shelf/2024/service-2.json", MODEL),
     ("n/shelf/2024/service-2.json", "{"),
     ("n/shelf/2025/waiters-2.json", "{"),
     ("m/a/b/1/service-2.json", MODEL),
+    ("m/./1/service-2.json", MODEL),
+    ("m/../1/service-2.json", MODEL),
     ("n/shelf/2024/paginators-1.json", r#"{"pagination":{}}"#),
     ("n/shelf/2024/waiters-2.json", r#"{"waiters":[]}"#),
     ("n/partitions.json", r#"{"partitions":[]}"#),
@@ -42,14 +45,13 @@ fn texts(alloc: Global, line: &str) -> Result<List<Text>, OutOfMemory> {
     Ok(texts)
 }
 
-/// What was found, or the last text of the refusal.
-fn outcome(answer: Result<Text, Unread>) -> Result<Text, OutOfMemory> {
-    match answer {
-        Ok(found) => Ok(found),
-        Err(Unread::UnknownService(service)) => Ok(service),
-        Err(Unread::BadModel(_, place)) => Ok(place),
-        Err(Unread::FileFault(path)) => Ok(path),
-        Err(Unread::OutOfMemory) => Err(OutOfMemory),
+/// The last text of a refusal.
+fn last_text(refusal: Unread) -> Result<Text, OutOfMemory> {
+    match refusal {
+        Unread::UnknownService(service) => Ok(service),
+        Unread::BadModel(_name, place) => Ok(place),
+        Unread::FileFault(path) => Ok(path),
+        Unread::OutOfMemory => Err(OutOfMemory),
     }
 }
 
@@ -63,8 +65,10 @@ fn version(
     let mut files = held(alloc, fails)?;
     let folders = texts(alloc, folders)?;
     let service = Text::from_str(alloc, service)?;
-    let found = find_model(alloc, &mut files, folders.as_slice(), &service);
-    outcome(found.map(|found| found.version))
+    match find_model(alloc, &mut files, folders.as_slice(), &service) {
+        Ok(found) => found.version.copy(alloc),
+        Err(refusal) => last_text(refusal),
+    }
 }
 
 #[test]
@@ -73,8 +77,8 @@ fn versions_of_services(rt: HostRuntime) -> Result<(), Fail> {
         ("m n", "shelf", "2024"),
         ("n m", "shelf", "json"),
         ("m", "a/b", "a/b"),
-        ("m/a m", ".", "."),
-        ("m/a m", "..", ".."),
+        ("m", ".", "."),
+        ("m", "..", ".."),
     ];
     for (folders, service, expected) in rows {
         let told = version(rt.alloc(), folders, service, &[])?;
@@ -96,14 +100,14 @@ fn a_long_file(rt: HostRuntime) -> Result<(), Fail> {
     let folders = texts(alloc, "m")?;
     let service = Text::from_str(alloc, "shelf")?;
     let found = find_model(alloc, &mut files, folders.as_slice(), &service);
-    assert!(rt; matches!(found, Err(Unread::BadModel(_, place)) if place.is("too long")));
+    assert!(rt; last_text(found.err().ok_or("it is found")?)?.is("too long"));
     Ok(())
 }
 
 #[test]
-fn other_files(rt: HostRuntime) -> Result<(), Fail> {
+fn files_of_a_version(rt: HostRuntime) -> Result<(), Fail> {
     let alloc = rt.alloc();
-    let mut files = held(alloc, &[7])?;
+    let mut files = held(alloc, &[])?;
     let folders = texts(alloc, "m n")?;
     let folders = folders.as_slice();
     let service = Text::from_str(alloc, "shelf")?;
@@ -111,15 +115,30 @@ fn other_files(rt: HostRuntime) -> Result<(), Fail> {
     let rows = find_paginators(alloc, &mut files, folders, &service, &version);
     assert!(rt; matches!(rows, Ok(Some(_))));
     let waiters = find_waiters(alloc, &mut files, folders, &service, &version);
-    assert!(rt; matches!(waiters, Err(Unread::BadModel(_, place)) if place.is("waiters")));
+    assert!(rt; last_text(waiters.err().ok_or("they are found")?)?.is("waiters"));
     let rules = find_rules(alloc, &mut files, folders, &service, &version);
     assert!(rt; matches!(rules, Ok(None)));
-    let partitions = find_partitions(alloc, &mut files, folders);
-    assert!(rt; matches!(partitions, Err(Unread::FileFault(path)) if path.is("m/partitions.json")));
-    let partitions = find_partitions(alloc, &mut files, folders);
-    assert!(rt; partitions.is_ok());
-    let partitions = find_partitions(alloc, &mut files, &folders[..1]);
-    assert!(rt; matches!(partitions, Err(Unread::BadModel(_, place)) if place.is("absent")));
+    Ok(())
+}
+
+/// The partitions in these folders: `found`, or the last text of the refusal.
+fn partitions(alloc: Global, folders: &str, fails: &[u64]) -> Result<Text, OutOfMemory> {
+    let mut files = held(alloc, fails)?;
+    let folders = texts(alloc, folders)?;
+    match find_partitions(alloc, &mut files, folders.as_slice()) {
+        Ok(_partitions) => Text::from_str(alloc, "found"),
+        Err(refusal) => last_text(refusal),
+    }
+}
+
+#[test]
+fn partitions_in_folders(rt: HostRuntime) -> Result<(), Fail> {
+    for (folders, expected) in [("m n", "found"), ("m", "absent")] {
+        let told = partitions(rt.alloc(), folders, &[])?;
+        assert_eq!(rt; told.as_str(), expected, "{folders}");
+    }
+    let told = partitions(rt.alloc(), "m n", &[2])?;
+    assert_eq!(rt; told.as_str(), "n/partitions.json");
     Ok(())
 }
 
