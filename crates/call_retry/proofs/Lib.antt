@@ -1,0 +1,5 @@
+pub mod CallLaws
+pub mod Decisions
+pub mod Outside
+pub mod Pauses
+pub mod Turns
