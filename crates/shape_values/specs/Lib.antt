@@ -1,0 +1,10 @@
+pub mod FaultText
+pub mod Faults
+pub mod Inside
+pub mod Instants
+pub mod JsonValues
+pub mod Kept
+pub mod Places
+pub mod Scalars
+pub mod ShortValues
+pub mod TextValues
