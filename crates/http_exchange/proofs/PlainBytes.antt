@@ -14,7 +14,8 @@ use Rattle.std.proofs.lemmas.Str.{encode_ascii, inside_one, length-encode, len_u
 use Rattle.std.proofs.lemmas.Str.Ascii.{IsAscii-from_all}
 use Rattle.httparse.specs.Grammar.{is_token_byte, is_uri_byte, is_value_byte, is_token, is_ows, skip_ows, trim_ows}
 use Rattle.httparse.proofs.TrimLemmas.{AllPass-reverse, trim_ows_space}
-use Rattle.http_exchange.specs.ReadBack.{is_visible, is_field_character}
+use Rattle.uri_texts.specs.Visible.{is_visible}
+use Rattle.http_exchange.specs.ReadBack.{is_field_character}
 
 -- ---- tests of each character
 

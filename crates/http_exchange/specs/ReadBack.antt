@@ -6,6 +6,7 @@ use Rattle.std.specs.Str.{str_eq_ignore_ascii_case}
 use Rattle.aws_world.specs.declared.message.Message.{Message}
 use Rattle.httparse.specs.Grammar.{RequestHead, ReadsRequest, is_token, trim_ows}
 use Rattle.httparse.specs.Spans.{name_and_value}
+use Rattle.uri_texts.specs.Visible.{is_visible}
 use Rattle.http_exchange.specs.Wire.{parameters, has_length, wire_of}
 
 -- the target: the path with its query
@@ -20,10 +21,6 @@ length_fields m = if has_length m then (codes "Content-Length", decimal (length 
 abbrev pub fields_of : Message → List (List ℕ × List ℕ)
 fields_of m =
     m.headers ++ (codes "User-Agent", codes "aws-json-cli/1") ∷ length_fields m ++ (codes "Connection", codes "close") ∷ []
-
--- visible ASCII
-abbrev pub is_visible : ℕ → Bool
-is_visible c = nat_lt 32 c && nat_lt c 127
 
 -- no control character of ASCII
 abbrev pub is_field_character : ℕ → Bool

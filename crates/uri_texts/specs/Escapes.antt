@@ -15,7 +15,7 @@ are_kept Kept = true
 
 -- `%` and two hexadecimal digits, in capitals
 abbrev pub escape : ℕ → List ℕ
-escape b = 37 ∷ slice_index (codes "0123456789ABCDEF") (b / 16) ∷ slice_index (codes "0123456789ABCDEF") (b % 16) ∷ []
+escape b = 37 ∷ slice_index (codes "0123456789ABCDEF") (b / 16 % 16) ∷ slice_index (codes "0123456789ABCDEF") (b % 16) ∷ []
 
 -- a byte as it stands where it is unreserved, or a slash that is kept, else its escape
 abbrev pub escaped_byte : Slashes → ℕ → List ℕ
