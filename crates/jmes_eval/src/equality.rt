@@ -11,7 +11,7 @@ use std::cmp::Ordering;
 /// Whether two documents are equal: of one kind, with the same value, deep down. In objects the order
 /// of the keys doesn't matter.
 #[cycle(equality)]
-pub(crate) fn same(a: &Doc, b: &Doc) -> bool
+pub fn same(a: &Doc, b: &Doc) -> bool
     ensures { result ≡ same a.now b.now }
 {
     match (a, b) {

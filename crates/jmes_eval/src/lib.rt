@@ -24,6 +24,7 @@ mod sorting;
 mod text_functions;
 mod tight;
 
+pub use equality::same;
 pub use evaluate::search;
 pub use laws::set_is_found;
 pub use query_fault::QueryFault;
