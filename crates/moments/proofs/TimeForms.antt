@@ -1,6 +1,7 @@
 -- The readings of times against their forms.
-use Rattle.std.proofs.Common.{◌≡◌, ℕ, ◌+◌, ◌*◌, ◌⊎◌, inl, inr, Bool, true, false, if◌then◌else◌, Option, None, Some, List, [], ◌∷◌, refl, ap, subst, ◌∙◌, arith, ℤ, pos, neg_ℤ, ◌+ℤ◌, ◌-ℤ◌, ◌*ℤ◌}
+use Rattle.std.proofs.Common.{◌≡◌, ℕ, ◌+◌, ◌*◌, ◌⊎◌, inl, inr, Bool, true, false, if◌then◌else◌, Option, None, Some, List, [], ◌∷◌, refl, ap, subst, ◌∙◌, arith, ℤ, pos, neg_ℤ, ◌+ℤ◌, ◌-ℤ◌, ◌*ℤ◌, sym, T}
 use Rattle.std.specs.Prelude.{◌==◌, MatchOption}
+use Rattle.std.specs.Int.Signed.{le_z, le_z_yes}
 use Rattle.std.specs.Char.{is_ascii_digit}
 use Rattle.std.proofs.lemmas.Bool.{eqb-true, ne_eqb}
 use Rattle.std.proofs.lemmas.Int.{ints}
@@ -119,3 +120,30 @@ no_time ts none far b time = by (reads time.0)
     by : IsRead ts b → ⊥
     by (inl e) = absurd (cc (e, none))
     by (inr e) = MatchOption-at_some (Unit {0}) (λ a. IsInYears a → ⊥) b e.1 far time.1
+
+abbrev first : ℤ
+first = neg_ℤ (pos 62135596800000000)
+
+abbrev last : ℤ
+last = pos 253402300799999999
+
+abbrev IsTold : List ℕ → Type 0
+IsTold ts = ((t : ℤ) × IsTime ts t) ⊎ ((t : ℤ) → IsTime ts t → ⊥)
+
+-- a form's instant is in the years, or the text is no time
+of_form : (ts : List ℕ) (a : ℤ) → Form ts a → IsTold ts
+of_form ts a form = by (le_z first a) refl (le_z a last) refl
+  where
+    by : (m : Bool) → le_z first a ≡ m → (n : Bool) → le_z a last ≡ n → IsTold ts
+    by true p true q = inl (a, (form, record { from_1 = le_z_yes (subst T (sym p) tt); to_9999 = le_z_yes (subst T (sym q) tt) }))
+    by false p n q = inr (no_time_else ts a form (λ years. absurd (subst T p years.from_1.le)))
+    by m p false q = inr (no_time_else ts a form (λ years. absurd (subst T q years.to_9999.le)))
+
+-- a text is a time or none
+pub told : (ts : List ℕ) → IsTold ts
+told ts = by (civil ts) refl (signed_seconds ts) refl
+  where
+    by : (c : Option ℤ) → civil ts ≡ c → (s : Option ℤ) → signed_seconds ts ≡ s → IsTold ts
+    by (Some t) p s q = of_form ts t (civil_holds ts t p)
+    by None p (Some t) q = of_form ts t (signed_holds ts t q)
+    by None p None q = inr (no_time ts p (rw (q) tt))

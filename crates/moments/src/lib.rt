@@ -7,4 +7,4 @@ mod instant;
 mod laws;
 
 pub use instant::moment;
-pub use laws::moments_are_unique;
+pub use laws::{moments_are_told, moments_are_unique};
