@@ -3,3 +3,4 @@ pub mod Decisions
 pub mod Outside
 pub mod Pauses
 pub mod Turns
+pub mod ReadBack

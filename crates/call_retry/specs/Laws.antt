@@ -1,7 +1,15 @@
 -- What holds of all calls.
-use Rattle.std.specs.Prelude.{◌≡◌, ◌⊎◌, ℕ, ◌≤◌, ℤ, List, ◌++◌, length, All, Option, None, Some, Ok}
+use Rattle.std.specs.Prelude.{◌≡◌, ◌⊎◌, ℕ, ◌≤◌, ℤ, List, ◌++◌, length, All, Option, None, Some, true, Ok}
 use Rattle.aws_world.specs.declared.connection.Connection.{Connection}
 use Rattle.aws_world.specs.declared.message.Message.{Message}
+use Rattle.endpoint_rules.specs.declared.endpoint.Endpoint.{Endpoint}
+use Rattle.service_model.specs.declared.model.Table.{Table}
+use Rattle.service_model.specs.declared.operation.Operation.{Operation}
+use Rattle.std.specs.List.{list_all}
+use Rattle.uri_texts.specs.Visible.{is_visible}
+use Rattle.http_exchange.specs.ReadBack.{ReadsBack, is_clean_header}
+use Rattle.serializer.specs.HeaderNames.{is_token}
+use Rattle.serializer.specs.Laws.{IsRooted, has_clean_texts}
 use Rattle.http_exchange.specs.Exchanges.{Exchanged}
 use Rattle.http_reply.specs.declared.outcome.Outcome.{Outcome}
 use Rattle.resp_parser.specs.declared.fault.ServiceError.{ServiceError}
@@ -70,3 +78,22 @@ abbrev pub ClassesAgree : Type 0
 ClassesAgree =
     (order : Order) (outcome : Outcome) (came : CallEnd) → ComesTo order outcome came → IsRead came
     → class_at came ≡ class_of outcome (error_in came)
+
+-- what a model and an endpoint themselves give to a request: a token as its method, a URI of visible ASCII that begins
+-- with a slash, a path of visible ASCII, and no control character in what goes into headers
+pub record IsSound (table : Table) (op : Operation) (e : Endpoint) : Type 0 where
+  pub method : is_token op.method ≡ true
+  pub uri : list_all is_visible op.uri ≡ true
+  pub rooted : IsRooted op.uri
+  pub path : list_all is_visible e.path ≡ true
+  pub texts : has_clean_texts table op e ≡ true
+
+abbrev pub with_headers : Message → List (List ℕ × List ℕ) → Message
+with_headers m more = record m { headers = m.headers ++ more }
+
+-- whatever the value is, the bytes of its message, also with other clean headers behind its own, are read as this
+-- message and as nothing else
+abbrev pub MessagesReadBack : Type 0
+MessagesReadBack =
+    (table : Table) (op : Operation) (value : Typed) (e : Endpoint) (m : Message) (more : List (List ℕ × List ℕ))
+    → IsSound table op e → encoded table op value e ≡ Ok m → list_all is_clean_header more ≡ true → ReadsBack (with_headers m more)

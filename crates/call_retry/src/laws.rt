@@ -1,5 +1,8 @@
 //! Laws of calls, as functions that do nothing.
-ghost use Rattle.call_retry.specs.Laws.{CallsAreBounded, CallsEndAlike, ClassesAgree, MessageIsOne, PausesAreShort, QuotaStays};
+ghost use Rattle.call_retry.specs.Laws.{CallsAreBounded, CallsEndAlike, ClassesAgree, MessageIsOne, MessagesReadBack, PausesAreShort, QuotaStays};
+
+use http_exchange::requests_read_back;
+use serializer::{headers_are_clean, headers_are_named, paths_are_there, targets_are_visible};
 
 /// A call makes no more connections than its limit, and may make none.
 pub fn calls_are_bounded()
@@ -31,3 +34,15 @@ pub fn calls_end_alike()
 pub fn classes_agree()
     ensures { ClassesAgree }
 {}
+
+/// Whatever the value is, its message is read by the grammar of requests as its method, its target, its headers and its
+/// body, and as nothing else: no value smuggles in another header, another request or another end of the body.
+pub fn messages_read_back()
+    ensures { MessagesReadBack }
+{
+    requests_read_back();
+    headers_are_clean();
+    headers_are_named();
+    targets_are_visible();
+    paths_are_there();
+}

@@ -19,8 +19,8 @@ pub use call_end::CallEnd;
 pub use caller::Caller;
 pub use class::{Class, class_of};
 pub use laws::{
-    calls_are_bounded, calls_end_alike, classes_agree, message_is_one, pauses_are_short,
-    quota_stays,
+    calls_are_bounded, calls_end_alike, classes_agree, message_is_one, messages_read_back,
+    pauses_are_short, quota_stays,
 };
 pub use quota::Quota;
 pub use retry::{Decision, Retry};

@@ -8,3 +8,7 @@ pub mod QueryParts
 pub mod PieceTexts
 pub mod PathMarks
 pub mod SoundNames
+pub mod PathTexts
+pub mod QueryTexts
+pub mod VisibleTargets
+pub mod RootedPaths

@@ -49,7 +49,7 @@ percent_stays false = refl
 
 escape_stays : (is_greedy : Bool) (b : ℕ) → list_all (stays_in_place is_greedy) (escape b) ≡ true
 escape_stays is_greedy b =
-    both_true (percent_stays is_greedy) (both_true (digit_stays is_greedy (b / 16)) (both_true (digit_stays is_greedy (b % 16)) refl))
+    both_true (percent_stays is_greedy) (both_true (digit_stays is_greedy (b / 16 % 16)) (both_true (digit_stays is_greedy (b % 16)) refl))
 
 by_test : (p : ℕ → Bool) (is_kept : Bool) (xs ys : List ℕ) → (is_kept ≡ true → list_all p xs ≡ true) → list_all p ys ≡ true
     → list_all p (if is_kept then xs else ys) ≡ true

@@ -34,7 +34,7 @@ module _ (p : ℕ → Bool) (brace : p 123 ≡ true) where
       let rest = cut_has q cs both.1 in
       either_parts (q c) ([] ∷ slice_split q cs) (onto_first c (slice_split q cs)) (both_true refl rest) (onto c (slice_split q cs) both.0 rest)
 
-  abbrev Halves : Option (List ℕ × List ℕ) → Type 0
+  abbrev pub Halves : Option (List ℕ × List ℕ) → Type 0
   Halves None = Unit {0}
   Halves (Some halves) = (list_all p halves.0 ≡ true) × (list_all p halves.1 ≡ true)
 
@@ -44,7 +44,7 @@ module _ (p : ℕ → Bool) (brace : p 123 ≡ true) where
   halves_if false c cs None h k f = tt
   halves_if false c cs (Some halves) h k f = (both_true h f.0, f.1)
 
-  halves_have : (mark : ℕ) (text : List ℕ) → list_all p text ≡ true → Halves (around_first mark text)
+  pub halves_have : (mark : ℕ) (text : List ℕ) → list_all p text ≡ true → Halves (around_first mark text)
   halves_have mark [] h = tt
   halves_have mark (c ∷ cs) h =
       let both = and_parts (p c) (list_all p cs) h in

@@ -1,109 +1,26 @@
 -- What stands in a parameter of the query stays in its place.
-use Rattle.std.proofs.Common.{◌≡◌, ℕ, Bool, true, false, List, [], ◌∷◌, map, Option, None, Some, refl, subst, ◌∙◌, if◌then◌else◌}
-use Rattle.std.specs.Prelude.{Ok, filter, encode_utf8_all}
-use Rattle.std.specs.Cmp.Derive.{both_true}
-use Rattle.std.specs.List.{list_all, flat_map}
-use Rattle.std.proofs.lemmas.List.Folds.{list_all-append}
+use Rattle.std.proofs.Common.{◌≡◌, ℕ, true, false, List, subst}
+use Rattle.std.specs.Prelude.{Ok, encode_utf8_all}
+use Rattle.std.specs.List.{list_all}
 use Rattle.aws_world.specs.declared.message.Message.{Message}
 use Rattle.endpoint_rules.specs.declared.endpoint.Endpoint.{Endpoint}
 use Rattle.service_model.specs.declared.model.Table.{Table}
 use Rattle.service_model.specs.declared.operation.Operation.{Operation}
-use Rattle.service_model.specs.declared.shape.Member.{Member}
-use Rattle.service_model.specs.declared.shape.Shape.{Shape}
-use Rattle.service_model.specs.declared.shape.ShapeId.{ShapeId}
-use Rattle.service_model.specs.declared.shape.TimeForm.TheVariants.{Iso8601}
-use Rattle.service_model.specs.Admission.{members_at}
-use Rattle.service_model.specs.Kept.{item_at}
-use Rattle.texts.specs.Cut.{cut, is_among}
-use Rattle.texts.specs.Keys.{value_at}
-use Rattle.texts.specs.Marks.{around_first}
-use Rattle.texts.specs.declared.pairs.Pair.{Pair}
-use Rattle.typed_value.specs.declared.typed.Typed.{Typed, out-Typed}
-use Rattle.typed_value.specs.declared.typed.Typed.TheOpen.{Typed-F}
+use Rattle.typed_value.specs.declared.typed.Typed.{Typed}
 use Rattle.uri_texts.specs.declared.escapes.Slashes.TheVariants.{Escaped}
-use Rattle.uri_texts.specs.Constants.{constant, constants, is_there}
 use Rattle.uri_texts.specs.Escapes.{escaped}
-use Rattle.value_texts.specs.declared.slot.Slot.{Slot}
-use Rattle.value_texts.specs.Scalars.{text_at}
-use Rattle.value_texts.specs.Slots.{slot_of_shape, slot_of_member}
-use Rattle.serializer.specs.Faults.{Asked, Fields}
-use Rattle.serializer.specs.Laws.{stays_in_place, is_in_place, stay_in_place}
-use Rattle.serializer.specs.Members.{is_json}
-use Rattle.serializer.specs.Messages.{asked_of, host_of, headers_due, message_with, query_of, encoded}
-use Rattle.serializer.specs.Queries.{parameter, item_parameters, parameters_in, entry_parameters, member_parameters_in, is_in_query, given_parameters, parameters_of}
+use Rattle.serializer.specs.Laws.{stays_in_place, stay_in_place}
+use Rattle.serializer.specs.Messages.{asked_of, host_of, headers_due, message_with, encoded}
 use Rattle.serializer.proofs.CleanHeaders.{then_ok, ok_same}
 use Rattle.serializer.proofs.PathLabels.{bytes_stay}
+use Rattle.serializer.proofs.QueryTexts.{query_stays}
 
 escaped_stays : (text : List ℕ) → list_all (stays_in_place false) (escaped Escaped text) ≡ true
 escaped_stays text = bytes_stay false (encode_utf8_all text)
-
-each_stays : {X : Type 0} (f : X → Fields) → ((x : X) → stay_in_place (f x) ≡ true) → (xs : List X) → stay_in_place (flat_map f xs) ≡ true
-each_stays f each [] = refl
-each_stays f each (x ∷ xs) = list_all-append is_in_place (f x) (flat_map f xs) ∙ both_true (each x) (each_stays f each xs)
-
-parameter_stays : (shapes : List Shape) (slot : Slot) (name : List ℕ) (v : Typed) → stay_in_place (parameter shapes slot name v ∷ []) ≡ true
-parameter_stays shapes slot name v =
-    both_true (both_true (escaped_stays name) (escaped_stays (text_at shapes Iso8601 slot v))) refl
-
-item_stays : (shapes : List Shape) (item : Option ShapeId) (name : List ℕ) (v : Typed) → stay_in_place (item_parameters shapes item name v) ≡ true
-item_stays shapes None name v = refl
-item_stays shapes (Some id) name v = parameter_stays shapes (slot_of_shape id) name v
-
-inside_stays : (shapes : List Shape) (slot : Slot) (name : List ℕ) (v : Typed) (inside : Typed-F Typed)
-    → stay_in_place (parameters_in shapes slot name v inside) ≡ true
-inside_stays shapes slot name v (Typed-F.Items vs) = each_stays _ (item_stays shapes (item_at shapes slot.shape) name) vs
-inside_stays shapes slot name v others = parameter_stays shapes slot name v
-
-entry_stays : (shapes : List Shape) (item : Option ShapeId) (p : Pair Typed) → stay_in_place (entry_parameters shapes item p) ≡ true
-entry_stays shapes None p = refl
-entry_stays shapes (Some id) p = inside_stays shapes (slot_of_shape id) p.key p.value (out-Typed p.value)
-
-value_stays : (shapes : List Shape) (m : Member) (v : Typed) (inside : Typed-F Typed) → stay_in_place (member_parameters_in shapes m v inside) ≡ true
-value_stays shapes m v (Typed-F.Fields ps) = each_stays _ (entry_stays shapes (item_at shapes m.shape)) ps
-value_stays shapes m v others = inside_stays shapes (slot_of_member m) m.wire v (out-Typed v)
-
-given_stays : (shapes : List Shape) (m : Member) (v : Option Typed) → stay_in_place (given_parameters shapes m v) ≡ true
-given_stays shapes m None = refl
-given_stays shapes m (Some v) = value_stays shapes m v (out-Typed v)
-
-either_stays : (b : Bool) (xs ys : Fields) → stay_in_place xs ≡ true → stay_in_place ys ≡ true → stay_in_place (if b then xs else ys) ≡ true
-either_stays true xs ys h k = h
-either_stays false xs ys h k = k
-
-members_stay : (shapes : List Shape) (ms : List Member) (ps : List (Pair Typed)) → stay_in_place (parameters_of shapes ms ps) ≡ true
-members_stay shapes ms ps =
-    each_stays (λ m. if is_in_query m.location then given_parameters shapes m (value_at m.name ps) else [])
-    (λ m. either_stays (is_in_query m.location) (given_parameters shapes m (value_at m.name ps)) [] (given_stays shapes m (value_at m.name ps)) refl) ms
-
-constant_stays : (found : Option (List ℕ × List ℕ)) (part : List ℕ)
-    → is_in_place (elim found [
-      | Some halves ↦ (escaped Escaped halves.0, escaped Escaped halves.1)
-      | None ↦ (escaped Escaped part, [])
-    ])
-    ≡ true
-constant_stays None part = both_true (escaped_stays part) refl
-constant_stays (Some halves) part = both_true (escaped_stays halves.0) (escaped_stays halves.1)
-
-constants_stay : (parts : List (List ℕ)) → stay_in_place (map constant parts) ≡ true
-constants_stay [] = refl
-constants_stay (part ∷ parts) = both_true (constant_stays (around_first 61 part) part) (constants_stay parts)
-
-behind_stays : (found : Option (List ℕ × List ℕ))
-    → stay_in_place (elim found [ Some halves ↦ map constant (filter is_there (cut (is_among (38 ∷ [])) halves.1)) | None ↦ [] ]) ≡ true
-behind_stays None = refl
-behind_stays (Some halves) = constants_stay (filter is_there (cut (is_among (38 ∷ [])) halves.1))
-
-query_stays : (asked : Asked) → stay_in_place (query_of asked) ≡ true
-query_stays asked =
-    let parameters = parameters_of asked.table.shapes (members_at asked.table.shapes asked.op.input) asked.fields in
-    list_all-append is_in_place (constants asked.op.uri) (if is_json asked.table.metadata.protocol then [] else parameters)
-    ∙ both_true (behind_stays (around_first 63 asked.op.uri))
-    (either_stays (is_json asked.table.metadata.protocol) [] parameters refl
-    (members_stay asked.table.shapes (members_at asked.table.shapes asked.op.input) asked.fields))
 
 pub parameters_stay : (table : Table) (op : Operation) (value : Typed) (e : Endpoint) (m : Message) → encoded table op value e ≡ Ok m
     → stay_in_place m.query ≡ true
 parameters_stay table op value e m is =
     let asked = asked_of table op value in
     let made = then_ok (headers_due asked (host_of asked e)) (λ hs. Ok (message_with asked e hs)) m is in
-    subst (λ (n : Message). stay_in_place n.query ≡ true) (ok_same (message_with asked e made.0) m made.1.1) (query_stays asked)
+    subst (λ (n : Message). stay_in_place n.query ≡ true) (ok_same (message_with asked e made.0) m made.1.1) (query_stays (stays_in_place false) escaped_stays asked)

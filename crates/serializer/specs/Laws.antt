@@ -1,5 +1,5 @@
 -- What the laws say.
-use Rattle.std.specs.Prelude.{◌≡◌, ℕ, ◌⊎◌, ◌&&◌, Bool, true, false, not, nat_eq, List, [], ◌++◌, flat_map, unwrap_or, Ok, Err, codes}
+use Rattle.std.specs.Prelude.{◌≡◌, ℕ, ◌<◌, ◌⊎◌, ◌&&◌, Bool, true, false, not, nat_eq, List, [], ◌∷◌, ◌++◌, length, flat_map, unwrap_or, Ok, Err, codes}
 use Rattle.std.specs.List.{list_all}
 use Rattle.aws_world.specs.declared.message.Message.{Message}
 use Rattle.endpoint_rules.specs.declared.endpoint.Endpoint.{Endpoint}
@@ -9,6 +9,7 @@ use Rattle.texts.specs.Cut.{is_among}
 use Rattle.typed_value.specs.declared.typed.Typed.{Typed}
 use Rattle.uri_texts.specs.declared.templates.Piece.{Piece}
 use Rattle.uri_texts.specs.declared.templates.Piece.TheVariants.{Plain, Label}
+use Rattle.uri_texts.specs.Visible.{is_visible}
 use Rattle.serializer.specs.declared.encode_fault.EncodeFault.{EncodeFault}
 use Rattle.serializer.specs.declared.encode_fault.EncodeFault.TheVariants.{EmptyLabel, BadHostLabel, TimeOutOfRange, BadHeaderText}
 use Rattle.serializer.specs.Faults.{Fields}
@@ -99,3 +100,22 @@ stay_in_place parameters = list_all is_in_place parameters
 abbrev pub ParametersStayInPlace : Type 0
 ParametersStayInPlace = (table : Table) (op : Operation) (value : Typed) (e : Endpoint) (m : Message)
     → encoded table op value e ≡ Ok m → stay_in_place m.query ≡ true
+
+-- path and query are visible ASCII
+pub record IsVisibleTarget (m : Message) : Type 0 where
+  pub path : list_all is_visible m.path ≡ true
+  pub query : list_all (λ p. list_all is_visible p.0 && list_all is_visible p.1) m.query ≡ true
+
+-- whatever the value is, path and query of its message are that, if the operation's URI and the endpoint's path are
+abbrev pub TargetsAreVisible : Type 0
+TargetsAreVisible = (table : Table) (op : Operation) (value : Typed) (e : Endpoint) (m : Message)
+    → list_all is_visible op.uri ≡ true → list_all is_visible e.path ≡ true → encoded table op value e ≡ Ok m → IsVisibleTarget m
+
+-- it begins with a slash
+abbrev pub IsRooted : List ℕ → Type 0
+IsRooted text = (rest : List ℕ) × (text ≡ 47 ∷ rest)
+
+-- no path is empty, if the operation's URI begins with a slash
+abbrev pub PathsAreThere : Type 0
+PathsAreThere = (table : Table) (op : Operation) (value : Typed) (e : Endpoint) (m : Message)
+    → IsRooted op.uri → encoded table op value e ≡ Ok m → 0 < length m.path

@@ -1,5 +1,5 @@
 //! What is true of all messages.
-ghost use Rattle.serializer.specs.Laws.{ValuesHaveOutcome, HeadersAreClean, HeadersAreNamed, LabelsStayInPlace, ParametersStayInPlace, PathsHaveNoQuery};
+ghost use Rattle.serializer.specs.Laws.{ValuesHaveOutcome, HeadersAreClean, HeadersAreNamed, LabelsStayInPlace, ParametersStayInPlace, PathsAreThere, PathsHaveNoQuery, TargetsAreVisible};
 
 /// A value gives one message, or one fault that names a member.
 pub fn values_have_outcome()
@@ -32,4 +32,15 @@ pub fn paths_have_no_query()
 /// The name and the value of a parameter in the query have no `?`, `#`, `&`, `=` or `/`.
 pub fn parameters_stay_in_place()
     ensures { ParametersStayInPlace }
+{}
+
+/// The path and the query of a message are visible ASCII, whatever the value is, if the operation's URI and the
+/// endpoint's path are.
+pub fn targets_are_visible()
+    ensures { TargetsAreVisible }
+{}
+
+/// No path is empty, if the operation's URI begins with a slash.
+pub fn paths_are_there()
+    ensures { PathsAreThere }
 {}

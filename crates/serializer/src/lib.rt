@@ -20,7 +20,7 @@ pub use encode_fault::EncodeFault;
 pub use labels::Labelled;
 pub use laws::{
     headers_are_clean, headers_are_named, labels_stay_in_place, parameters_stay_in_place,
-    paths_have_no_query, values_have_outcome,
+    paths_are_there, paths_have_no_query, targets_are_visible, values_have_outcome,
 };
 pub use messages::message;
 pub use tokens::{needs_token, with_token};
