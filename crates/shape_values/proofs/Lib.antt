@@ -10,3 +10,4 @@ pub mod OneInstant
 pub mod Refused
 pub mod ShortLayers
 pub mod ShortParts
+mod Told
