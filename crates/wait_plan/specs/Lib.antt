@@ -1,0 +1,4 @@
+pub mod FaultText
+pub mod Inside
+pub mod Matches
+pub mod Plans
